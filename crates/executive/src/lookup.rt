@@ -1,0 +1,40 @@
+// Look-up by number, only among the tasks and semaphores that there are.
+ghost use mathlib.Core.Path.{_≡_};
+ghost use Rattle.table.specs.Places.{taskPlace, semPlace};
+ghost use Rattle.executive.specs.States.{tasksOf, semsOf};
+ghost use Rattle.executive.specs.Sound.{Sized};
+
+use crate::state::State;
+use table::Found;
+
+impl State {
+    pub fn find_task(self, number: u16) -> Found
+        requires { ⌜ Sized self ⌝ }
+        ensures { λ r. ⌜ r ≡ taskPlace (tasksOf self) number ⌝ }
+    {
+        let n = self.n;
+        let mut i: usize = 0;
+        while i < n {
+            if self.tasks[i].number == number {
+                return Found::At(i);
+            }
+            i += 1;
+        }
+        Found::Nothing
+    }
+
+    pub fn find_sem(self, number: u16) -> Found
+        requires { ⌜ Sized self ⌝ }
+        ensures { λ r. ⌜ r ≡ semPlace (semsOf self) number ⌝ }
+    {
+        let m = self.m;
+        let mut k: usize = 0;
+        while k < m {
+            if self.sems[k].number == number {
+                return Found::At(k);
+            }
+            k += 1;
+        }
+        Found::Nothing
+    }
+}

@@ -1,0 +1,46 @@
+use borrow.Author.Needs.{needs}
+use Rattle.fields.proofs.put_u32.Statement.{statement}
+use Rattle.fields.proofs.put_u32.Tie as tie
+use Rattle.fields.proofs.put_u32.Reads as reads
+use Rattle.fields.proofs.put_u32.Lts as lts
+use Rattle.fields.proofs.put_u16.Reads as put-u16-reads
+
+-- src/lib.rt:40:20
+cast-put-u16 : tie.Need-cast-put-u16
+cast-put-u16 c = search needs
+
+-- src/lib.rt:40:5
+put-u16-requires : tie.Need-put-u16-requires
+put-u16-requires c κs = search needs
+
+-- src/lib.rt:41:16
+add-put-u16 : tie.Need-add-put-u16
+add-put-u16 c = search needs
+
+-- src/lib.rt:41:24
+cast-put-u16-2 : tie.Need-cast-put-u16-2
+cast-put-u16-2 c = search needs
+
+-- src/lib.rt:41:5
+put-u16-requires-2 : tie.Need-put-u16-requires-2
+put-u16-requires-2 c κs = search needs
+
+-- src/lib.rt:36:1
+same-length : tie.Need-same-length
+same-length c = search needs
+
+-- src/lib.rt:36:1
+returns : tie.Need-returns
+returns c = ?
+
+pub put-u32-spec : {M : Type 1} → statement M
+put-u32-spec =
+    tie.close
+    (tie.spec
+    cast-put-u16
+    put-u16-requires
+    add-put-u16
+    cast-put-u16-2
+    put-u16-requires-2
+    same-length
+    returns)

@@ -1,0 +1,2 @@
+-- What a reader must believe of numbers in bytes.
+pub mod Fields

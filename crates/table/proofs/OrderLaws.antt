@@ -1,0 +1,135 @@
+-- The laws of ranges and of order: what the tests of a well-formed table say of its numbers.
+-- Assumes nothing.
+use Prim.Native.Nat.{ℕ, zero, suc, _+_, _≤_, _<_}
+use mathlib.Core.Path.{_≡_, refl, sym, ap, _∙_}
+use mathlib.Core.Bool.{Bool, true, false, not, _&&_, _||_}
+use mathlib.Core.List.{List, [], _∷_, _++_}
+use native.Mathlib.Nat.{le-of-suc-le-suc, not-suc-le-zero}
+use native.Mathlib.Omega.{arith}
+use lib.Dec.{leb, ltb, eqb}
+use lib.ListN.{length, getD}
+use borrow.Author.Tests.{leb-true, le-leb, eq-eqb, not-true}
+use Rattle.table.specs.declared.Board.{Board}
+use Rattle.table.specs.declared.Task.{Task}
+use Rattle.table.specs.declared.Sem.{Sem}
+use Rattle.table.specs.Entries.{builtIn}
+use Rattle.table.specs.Sums.{every, any}
+use Rattle.table.specs.WellFormed.{within, taskInRange, semInRange, boardInRange, used, usedOnce}
+use Rattle.table.proofs.SumLaws.{both, both-left, both-right, any-none}
+
+-- a value that lies within its bounds, and back
+pub within-true : (least value most : ℕ) → within least value most ≡ true → (least ≤ value) × (value ≤ most)
+unfolding within
+within-true least value most h =
+    (leb-true least value (both-left (leb least value) (leb value most) h), leb-true value most (both-right (leb least value) (leb value most) h))
+
+pub true-within : (least value most : ℕ) → least ≤ value → value ≤ most → within least value most ≡ true
+unfolding within
+true-within least value most h k = both (leb least value) (leb value most) (le-leb least value h) (le-leb value most k)
+
+-- a task in range, field by field
+pub record TaskRange (t : Task) : Type 0 where
+  pub queueLeast : 1 ≤ t .queue
+  pub queueMost : t .queue ≤ 3
+  pub numberLeast : 1 ≤ t .number
+  pub numberMost : t .number ≤ 65535
+  pub periodLeast : 1000 ≤ t .period
+  pub periodMost : t .period ≤ 100000000
+  pub costLeast : 1 ≤ t .cost
+  pub costMost : t .cost ≤ t .period
+
+pub task-range : (t : Task) → taskInRange t ≡ true → TaskRange t
+unfolding taskInRange
+task-range t h =
+    let q = within 1 (t .queue) 3 in
+    let n = within 1 (t .number) 65535 in
+    let p = within 1000 (t .period) 100000000 in
+    let c = within 1 (t .cost) (t .period) in
+    let qnp = both-left (q && n && p) c h in
+    let qn = both-left (q && n) p qnp in
+    let wq = within-true 1 (t .queue) 3 (both-left q n qn) in
+    let wn = within-true 1 (t .number) 65535 (both-right q n qn) in
+    let wp = within-true 1000 (t .period) 100000000 (both-right (q && n) p qnp) in
+    let wc = within-true 1 (t .cost) (t .period) (both-right (q && n && p) c h) in
+    record
+    { queueLeast = wq .0
+    ; queueMost = wq .1
+    ; numberLeast = wn .0
+    ; numberMost = wn .1
+    ; periodLeast = wp .0
+    ; periodMost = wp .1
+    ; costLeast = wc .0
+    ; costMost = wc .1
+    }
+
+-- the figures of a board in range
+pub record BoardRange (b : Board) : Type 0 where
+  pub dpBlock : b .«dp_block» ≤ 10000
+  pub dpUnblock : b .«dp_unblock» ≤ 10000
+  pub dpSelect : b .«dp_select» ≤ 10000
+  pub dpSelectTask : b .«dp_select_task» ≤ 10000
+  pub fpBlock : b .«fp_block» ≤ 10000
+  pub fpBlockTask : b .«fp_block_task» ≤ 10000
+  pub fpUnblock : b .«fp_unblock» ≤ 10000
+  pub fpSelect : b .«fp_select» ≤ 10000
+  pub perQueue : b .«per_queue» ≤ 10000
+
+pub board-range : (b : Board) → boardInRange b ≡ true → BoardRange b
+unfolding boardInRange
+board-range b h =
+    let f1 = leb (b .«dp_block») 10000 in
+    let f2 = f1 && leb (b .«dp_unblock») 10000 in
+    let f3 = f2 && leb (b .«dp_select») 10000 in
+    let f4 = f3 && leb (b .«dp_select_task») 10000 in
+    let f5 = f4 && leb (b .«fp_block») 10000 in
+    let f6 = f5 && leb (b .«fp_block_task») 10000 in
+    let f7 = f6 && leb (b .«fp_unblock») 10000 in
+    let f8 = f7 && leb (b .«fp_select») 10000 in
+    let h8 = both-left f8 (leb (b .«per_queue») 10000) h in
+    let h7 = both-left f7 (leb (b .«fp_select») 10000) h8 in
+    let h6 = both-left f6 (leb (b .«fp_unblock») 10000) h7 in
+    let h5 = both-left f5 (leb (b .«fp_block_task») 10000) h6 in
+    let h4 = both-left f4 (leb (b .«fp_block») 10000) h5 in
+    let h3 = both-left f3 (leb (b .«dp_select_task») 10000) h4 in
+    let h2 = both-left f2 (leb (b .«dp_select») 10000) h3 in
+    let h1 = both-left f1 (leb (b .«dp_unblock») 10000) h2 in
+    record
+    { dpBlock = leb-true (b .«dp_block») 10000 h1
+    ; dpUnblock = leb-true (b .«dp_unblock») 10000 (both-right f1 (leb (b .«dp_unblock») 10000) h2)
+    ; dpSelect = leb-true (b .«dp_select») 10000 (both-right f2 (leb (b .«dp_select») 10000) h3)
+    ; dpSelectTask = leb-true (b .«dp_select_task») 10000 (both-right f3 (leb (b .«dp_select_task») 10000) h4)
+    ; fpBlock = leb-true (b .«fp_block») 10000 (both-right f4 (leb (b .«fp_block») 10000) h5)
+    ; fpBlockTask = leb-true (b .«fp_block_task») 10000 (both-right f5 (leb (b .«fp_block_task») 10000) h6)
+    ; fpUnblock = leb-true (b .«fp_unblock») 10000 (both-right f6 (leb (b .«fp_unblock») 10000) h7)
+    ; fpSelect = leb-true (b .«fp_select») 10000 (both-right f7 (leb (b .«fp_select») 10000) h8)
+    ; perQueue = leb-true (b .«per_queue») 10000 (both-right f8 (leb (b .«per_queue») 10000) h)
+    }
+
+-- the built-in figures are in range (request e) moves the figures, and no proof but this one)
+pub built-in-range : boardInRange builtIn ≡ true
+unfolding boardInRange builtIn
+built-in-range = refl
+
+-- a number that stands first stands nowhere behind
+twice : (t : Task) (rest : List Task) (d : Task) → usedOnce (t ∷ rest) ≡ true → (j : ℕ) → j < length rest
+    → (getD rest j d) .number ≡ t .number → ⊥
+unfolding usedOnce used
+twice t rest d h j k e =
+    let behind = any (λ u. eqb (u .number) (t .number)) rest in
+    let n = not-true behind (both-left (not behind) (usedOnce rest) h) in
+    let a : eqb ((getD rest j d) .number) (t .number) ≡ false = any-none (λ u. eqb (u .number) (t .number)) rest n j k d in
+    let b : eqb ((getD rest j d) .number) (t .number) ≡ true = eq-eqb ((getD rest j d) .number) (t .number) e in
+    let z : _≡_ {A = ℕ} 0 1 = cc in
+    omega arith
+
+-- two tasks whose numbers are equal are one
+pub once : (tasks : List Task) (d : Task) → usedOnce tasks ≡ true → (i j : ℕ) → i < length tasks → j < length tasks
+    → (getD tasks i d) .number ≡ (getD tasks j d) .number → i ≡ j
+unfolding usedOnce used
+once [] d h i j hi hj e = absurd (not-suc-le-zero hi)
+once (t ∷ rest) d h zero zero hi hj e = refl
+once (t ∷ rest) d h zero (suc j) hi hj e = absurd (twice t rest d h j (le-of-suc-le-suc hj) (sym e))
+once (t ∷ rest) d h (suc i) zero hi hj e = absurd (twice t rest d h i (le-of-suc-le-suc hi) e)
+once (t ∷ rest) d h (suc i) (suc j) hi hj e =
+    let behind = any (λ u. eqb (u .number) (t .number)) rest in
+    ap suc (once rest d (both-right (not behind) (usedOnce rest) h) i j (le-of-suc-le-suc hi) (le-of-suc-le-suc hj) e)

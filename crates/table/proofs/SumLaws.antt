@@ -1,0 +1,121 @@
+-- The laws of sums, counts and tests over a list.
+-- Assumes nothing.
+use Prim.Native.Nat.{ℕ, zero, suc, _+_, _*_, _≤_, _<_}
+use mathlib.Core.Path.{_≡_, refl, sym, ap, _∙_}
+use mathlib.Core.Bool.{Bool, true, false, cond, _&&_, _||_}
+use mathlib.Core.List.{List, [], _∷_, _++_}
+use native.Mathlib.Nat.{add-assoc, zero-add, add-zero, le-refl, le-of-suc-le-suc, not-suc-le-zero, zero-mul, suc-mul}
+use native.Mathlib.Numerals.{add-one}
+use native.Mathlib.Omega.{arith}
+use lib.ListN.{length, getD, take, drop}
+use lib.Seq.{take-suc}
+use Rattle.table.specs.Sums.{sumOf, countOf, every, any}
+
+-- both halves of a conjunction, and a conjunction of both
+pub both-left : (a b : Bool) → (a && b) ≡ true → a ≡ true
+both-left true b h = refl
+both-left false b h = h
+
+pub both-right : (a b : Bool) → (a && b) ≡ true → b ≡ true
+both-right true b h = h
+both-right false b h = let z : _≡_ {A = ℕ} 0 1 = cc in absurd (omega arith)
+
+pub both : (a b : Bool) → a ≡ true → b ≡ true → (a && b) ≡ true
+both a b h k = rw h k
+
+-- a count's gate is at most 1
+gate-small : (b : Bool) → cond b 1 0 ≤ 1
+gate-small true = omega arith
+gate-small false = omega arith
+
+module _ {A : Type 0} where
+  pub sumOf-append : (f : A → ℕ) (xs ys : List A) → sumOf f (xs ++ ys) ≡ sumOf f xs + sumOf f ys
+  unfolding sumOf
+  sumOf-append f [] ys = sym (zero-add _)
+  sumOf-append f (x ∷ xs) ys = rw (sumOf-append f xs ys) (sym (add-assoc (f x) (sumOf f xs) (sumOf f ys)))
+
+  pub sumOf-one : (f : A → ℕ) (x : A) → sumOf f (x ∷ []) ≡ f x
+  unfolding sumOf
+  sumOf-one f x = add-zero (f x)
+
+  -- one entry more
+  pub sumOf-more : (f : A → ℕ) (l : List A) (i : ℕ) (d : A) → i < length l → sumOf f (take (i + 1) l) ≡ sumOf f (take i l) + f (getD l i d)
+  sumOf-more f l i d h =
+      ap (λ (n : ℕ). sumOf f (take n l)) (add-one i) ∙ ap (sumOf f) (take-suc l i d h) ∙ sumOf-append f (take i l) (getD l i d ∷ [])
+      ∙ ap (λ (n : ℕ). sumOf f (take i l) + n) (sumOf-one f (getD l i d))
+
+  -- equal entry by entry, equal in sum
+  pub sumOf-same : (f g : A → ℕ) (l : List A) → ((i : ℕ) → i < length l → (d : A) → f (getD l i d) ≡ g (getD l i d)) → sumOf f l ≡ sumOf g l
+  unfolding sumOf
+  sumOf-same f g [] h = refl
+  sumOf-same f g (x ∷ xs) h =
+      let a : f x ≡ g x = h 0 (omega arith) x in
+      let b : sumOf f xs ≡ sumOf g xs = sumOf-same f g xs (λ i k d. h (suc i) (omega arith) d) in
+      cc
+
+  -- no entry above a bound, no sum above as many times that bound
+  pub sumOf-bound : (f : A → ℕ) (b : ℕ) (l : List A) → ((i : ℕ) → i < length l → (d : A) → f (getD l i d) ≤ b) → sumOf f l ≤ length l * b
+  unfolding sumOf
+  sumOf-bound f b [] h = rw (zero-mul b) (omega arith)
+  sumOf-bound f b (x ∷ xs) h =
+      let a : f x ≤ b = h 0 (omega arith) x in
+      let k : sumOf f xs ≤ length xs * b = sumOf-bound f b xs (λ i k d. h (suc i) (omega arith) d) in
+      rw (suc-mul (length xs) b) (omega arith)
+
+  -- smaller entry by entry, smaller in sum
+  pub sumOf-mono : (f g : A → ℕ) (l : List A) → ((i : ℕ) → i < length l → (d : A) → f (getD l i d) ≤ g (getD l i d)) → sumOf f l ≤ sumOf g l
+  unfolding sumOf
+  sumOf-mono f g [] h = omega arith
+  sumOf-mono f g (x ∷ xs) h =
+      let a : f x ≤ g x = h 0 (omega arith) x in
+      let b : sumOf f xs ≤ sumOf g xs = sumOf-mono f g xs (λ i k d. h (suc i) (omega arith) d) in
+      omega arith
+
+  pub countOf-more : (test : A → Bool) (l : List A) (i : ℕ) (d : A) → i < length l
+      → countOf test (take (i + 1) l) ≡ countOf test (take i l) + cond (test (getD l i d)) 1 0
+  unfolding countOf
+  countOf-more test l i d h = sumOf-more (λ x. cond (test x) 1 0) l i d h
+
+  pub countOf-bound : (test : A → Bool) (l : List A) → countOf test l ≤ length l
+  unfolding countOf
+  countOf-bound test l =
+      let h : sumOf (λ x. cond (test x) 1 0) l ≤ length l * 1 = sumOf-bound (λ x. cond (test x) 1 0) 1 l (λ i k d. gate-small (test (getD l i d))) in
+      omega arith
+
+  -- a test that every entry passes, at each place
+  pub every-at : (test : A → Bool) (l : List A) → every test l ≡ true → (i : ℕ) → i < length l → (d : A) → test (getD l i d) ≡ true
+  unfolding every
+  every-at test [] h i k d = absurd (not-suc-le-zero k)
+  every-at test (x ∷ xs) h zero k d = both-left (test x) (every test xs) h
+  every-at test (x ∷ xs) h (suc i) k d = every-at test xs (both-right (test x) (every test xs) h) i (le-of-suc-le-suc k) d
+
+  pub every-all : (test : A → Bool) (l : List A) → ((i : ℕ) → i < length l → (d : A) → test (getD l i d) ≡ true) → every test l ≡ true
+  unfolding every
+  every-all test [] h = refl
+  every-all test (x ∷ xs) h =
+      both (test x) (every test xs) (h 0 (omega arith) x) (every-all test xs (λ i k d. h (suc i) (omega arith) d))
+
+  pub every-append : (test : A → Bool) (xs ys : List A) → every test (xs ++ ys) ≡ (every test xs && every test ys)
+  unfolding every
+  every-append test [] ys = refl
+  every-append test (x ∷ xs) ys = rw (every-append test xs ys) (sym (mathlib.Core.Bool.and-assoc (test x) (every test xs) (every test ys)))
+
+  pub any-append : (test : A → Bool) (xs ys : List A) → any test (xs ++ ys) ≡ (any test xs || any test ys)
+  unfolding any
+  any-append test [] ys = refl
+  any-append test (x ∷ xs) ys = rw (any-append test xs ys) (sym (mathlib.Core.Bool.or-assoc (test x) (any test xs) (any test ys)))
+
+  -- no entry passes a test that none of the list passes
+  pub any-none : (test : A → Bool) (l : List A) → any test l ≡ false → (i : ℕ) → i < length l → (d : A) → test (getD l i d) ≡ false
+  unfolding any
+  any-none test [] h i k d = absurd (not-suc-le-zero k)
+  any-none test (x ∷ xs) h zero k d = neither-left (test x) (any test xs) h
+    where
+      neither-left : (a b : Bool) → (a || b) ≡ false → a ≡ false
+      neither-left true b e = e
+      neither-left false b e = refl
+  any-none test (x ∷ xs) h (suc i) k d = any-none test xs (neither-right (test x) (any test xs) h) i (le-of-suc-le-suc k) d
+    where
+      neither-right : (a b : Bool) → (a || b) ≡ false → b ≡ false
+      neither-right true b e = let z : _≡_ {A = ℕ} 0 1 = cc in absurd (omega arith)
+      neither-right false b e = e
