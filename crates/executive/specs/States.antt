@@ -19,25 +19,25 @@ semsOf s = take (s .m) (s .sems)
 -- 01, "Numbers that come back": the empty state has no task, no semaphore, all numbers zero
 unfoldable pub emptyState : State
 emptyState =
-    record
-    { tasks = replicate 64 blankTask
-    ; sems = replicate 16 blankSem
-    ; n = 0
-    ; m = 0
-    ; last = 0
-    ; board = noFigures
-    ; present = false
+    record {
+      tasks = replicate 64 blankTask;
+      sems = replicate 16 blankSem;
+      n = 0;
+      m = 0;
+      last = 0;
+      board = noFigures;
+      present = false;
     }
 
 -- 01, "The image": what loading starts from. The built-in figures hold if there is no board record
 unfoldable pub freshState : State
 freshState =
-    record
-    { tasks = replicate 64 blankTask
-    ; sems = replicate 16 blankSem
-    ; n = 0
-    ; m = 0
-    ; last = 0
-    ; board = builtIn
-    ; present = false
+    record {
+      tasks = replicate 64 blankTask;
+      sems = replicate 16 blankSem;
+      n = 0;
+      m = 0;
+      last = 0;
+      board = builtIn;
+      present = false;
     }

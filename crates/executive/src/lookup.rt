@@ -3,7 +3,6 @@ ghost use mathlib.Core.Path.{_≡_};
 ghost use Rattle.table.specs.Places.{taskPlace, semPlace};
 ghost use Rattle.executive.specs.States.{tasksOf, semsOf};
 ghost use Rattle.executive.specs.Sound.{Sized};
-
 use crate::state::State;
 use table::Found;
 

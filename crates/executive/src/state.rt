@@ -1,7 +1,6 @@
 // The by-value state that document 01 names: 64 task entries, 16 semaphore entries, the board and its flag.
 ghost use mathlib.Core.Path.{_≡_};
 ghost use Rattle.executive.specs.States.{emptyState, freshState};
-
 use table::Board;
 use table::Sem;
 use table::Task;

@@ -51,15 +51,15 @@ task-range t h =
     let wn = within-true 1 (t .number) 65535 (both-right q n qn) in
     let wp = within-true 1000 (t .period) 100000000 (both-right (q && n) p qnp) in
     let wc = within-true 1 (t .cost) (t .period) (both-right (q && n && p) c h) in
-    record
-    { queueLeast = wq .0
-    ; queueMost = wq .1
-    ; numberLeast = wn .0
-    ; numberMost = wn .1
-    ; periodLeast = wp .0
-    ; periodMost = wp .1
-    ; costLeast = wc .0
-    ; costMost = wc .1
+    record {
+      queueLeast = wq .0;
+      queueMost = wq .1;
+      numberLeast = wn .0;
+      numberMost = wn .1;
+      periodLeast = wp .0;
+      periodMost = wp .1;
+      costLeast = wc .0;
+      costMost = wc .1;
     }
 
 -- the figures of a board in range
@@ -93,16 +93,16 @@ board-range b h =
     let h3 = both-left f3 (leb (b .«dp_select_task») 10000) h4 in
     let h2 = both-left f2 (leb (b .«dp_select») 10000) h3 in
     let h1 = both-left f1 (leb (b .«dp_unblock») 10000) h2 in
-    record
-    { dpBlock = leb-true (b .«dp_block») 10000 h1
-    ; dpUnblock = leb-true (b .«dp_unblock») 10000 (both-right f1 (leb (b .«dp_unblock») 10000) h2)
-    ; dpSelect = leb-true (b .«dp_select») 10000 (both-right f2 (leb (b .«dp_select») 10000) h3)
-    ; dpSelectTask = leb-true (b .«dp_select_task») 10000 (both-right f3 (leb (b .«dp_select_task») 10000) h4)
-    ; fpBlock = leb-true (b .«fp_block») 10000 (both-right f4 (leb (b .«fp_block») 10000) h5)
-    ; fpBlockTask = leb-true (b .«fp_block_task») 10000 (both-right f5 (leb (b .«fp_block_task») 10000) h6)
-    ; fpUnblock = leb-true (b .«fp_unblock») 10000 (both-right f6 (leb (b .«fp_unblock») 10000) h7)
-    ; fpSelect = leb-true (b .«fp_select») 10000 (both-right f7 (leb (b .«fp_select») 10000) h8)
-    ; perQueue = leb-true (b .«per_queue») 10000 (both-right f8 (leb (b .«per_queue») 10000) h)
+    record {
+      dpBlock = leb-true (b .«dp_block») 10000 h1;
+      dpUnblock = leb-true (b .«dp_unblock») 10000 (both-right f1 (leb (b .«dp_unblock») 10000) h2);
+      dpSelect = leb-true (b .«dp_select») 10000 (both-right f2 (leb (b .«dp_select») 10000) h3);
+      dpSelectTask = leb-true (b .«dp_select_task») 10000 (both-right f3 (leb (b .«dp_select_task») 10000) h4);
+      fpBlock = leb-true (b .«fp_block») 10000 (both-right f4 (leb (b .«fp_block») 10000) h5);
+      fpBlockTask = leb-true (b .«fp_block_task») 10000 (both-right f5 (leb (b .«fp_block_task») 10000) h6);
+      fpUnblock = leb-true (b .«fp_unblock») 10000 (both-right f6 (leb (b .«fp_unblock») 10000) h7);
+      fpSelect = leb-true (b .«fp_select») 10000 (both-right f7 (leb (b .«fp_select») 10000) h8);
+      perQueue = leb-true (b .«per_queue») 10000 (both-right f8 (leb (b .«per_queue») 10000) h);
     }
 
 -- the built-in figures are in range (request e) moves the figures, and no proof but this one)

@@ -11,31 +11,31 @@ use Rattle.table.specs.declared.Holder.the-variants.{Free}
 -- 01, "The image": the nine figures that hold if there is no board record (request e) moves them)
 unfoldable pub builtIn : Board
 builtIn =
-    record
-    { «dp_block» = 160
-    ; «dp_unblock» = 120
-    ; «dp_select» = 120
-    ; «dp_select_task» = 25
-    ; «fp_block» = 100
-    ; «fp_block_task» = 36
-    ; «fp_unblock» = 140
-    ; «fp_select» = 60
-    ; «per_queue» = 55
+    record {
+      «dp_block» = 160;
+      «dp_unblock» = 120;
+      «dp_select» = 120;
+      «dp_select_task» = 25;
+      «fp_block» = 100;
+      «fp_block_task» = 36;
+      «fp_unblock» = 140;
+      «fp_select» = 60;
+      «per_queue» = 55;
     }
 
 -- 01, "Numbers that come back": in the empty state all numbers are zero
 abbrev pub noFigures : Board
 noFigures =
-    record
-    { «dp_block» = 0
-    ; «dp_unblock» = 0
-    ; «dp_select» = 0
-    ; «dp_select_task» = 0
-    ; «fp_block» = 0
-    ; «fp_block_task» = 0
-    ; «fp_unblock» = 0
-    ; «fp_select» = 0
-    ; «per_queue» = 0
+    record {
+      «dp_block» = 0;
+      «dp_unblock» = 0;
+      «dp_select» = 0;
+      «dp_select_task» = 0;
+      «fp_block» = 0;
+      «fp_block_task» = 0;
+      «fp_unblock» = 0;
+      «fp_select» = 0;
+      «per_queue» = 0;
     }
 
 -- what stands at a place that no task has
@@ -53,25 +53,25 @@ spanOf t = t .period
 -- the same task, doing something else
 abbrev pub withStatus : Task → Status → Task
 withStatus t now =
-    record
-    { deadline = t .deadline
-    ; period = t .period
-    ; cost = t .cost
-    ; number = t .number
-    ; queue = t .queue
-    ; status = now
+    record {
+      deadline = t .deadline;
+      period = t .period;
+      cost = t .cost;
+      number = t .number;
+      queue = t .queue;
+      status = now;
     }
 
 -- the same task, with another deadline
 abbrev pub withDeadline : Task → ℕ → Task
 withDeadline t at =
-    record
-    { deadline = at
-    ; period = t .period
-    ; cost = t .cost
-    ; number = t .number
-    ; queue = t .queue
-    ; status = t .status
+    record {
+      deadline = at;
+      period = t .period;
+      cost = t .cost;
+      number = t .number;
+      queue = t .queue;
+      status = t .status;
     }
 
 -- the same semaphore, held otherwise

@@ -55,13 +55,21 @@ pub struct Board {
 
 impl Board {
     pub const DP_BLOCK: u16 = 160;
+
     pub const DP_UNBLOCK: u16 = 120;
+
     pub const DP_SELECT: u16 = 120;
+
     pub const DP_SELECT_TASK: u16 = 25;
+
     pub const FP_BLOCK: u16 = 100;
+
     pub const FP_BLOCK_TASK: u16 = 36;
+
     pub const FP_UNBLOCK: u16 = 140;
+
     pub const FP_SELECT: u16 = 60;
+
     pub const PER_QUEUE: u16 = 55;
 
     // The figures that hold if there is no board record.

@@ -1,41 +1,49 @@
+-- `fields::all_are` meets its contract: what is left of the part from i on decides.
+-- Assumes nothing.
+use Prim.Native.Nat.{_≤_, _-_}
+use mathlib.Core.Path.{_≡_, refl, sym, _∙_}
+use native.Mathlib.Omega.{arith}
+use denote.Ref.{now}
+use lib.ListN.{length, drop}
+use Rattle.fields.specs.Fields.{allAre}
+use Rattle.fields.proofs.ByteLaws.{all-more, all-stop, all-end}
 use Rattle.fields.proofs.all_are.Statement.{statement}
 use Rattle.fields.proofs.all_are.Tie as tie
-use Rattle.fields.proofs.all_are.Reads as reads
-use Rattle.fields.proofs.all_are.Lts as lts
 
 abbrev Inv-loop : tie.InvT-loop
-Inv-loop part b i₀ i = ?
+Inv-loop part b i₀ i = (i ≤ length part) × (allAre b (drop i part) ≡ allAre b part)
 
 abbrev μ-loop : tie.MeasureT-loop
-μ-loop part b i₀ i = ?
+μ-loop part b i₀ i = length part - i
 
--- src/lib.rt:57:5
 loop-holds : tie.Need-loop-holds Inv-loop μ-loop
-loop-holds c = ?
+loop-holds c = (omega arith, refl)
 
--- src/lib.rt:58:12
 shared-slice-read-if1 : tie.Need-shared-slice-read-if1 Inv-loop μ-loop
-shared-slice-read-if1 c = ?
+shared-slice-read-if1 c = omega arith
 
--- src/lib.rt:59:13
 returns : tie.Need-returns Inv-loop μ-loop
-returns c = ?
+returns c =
+    let a = c .before .before .before .before .args in
+    sym (all-stop (a .b) (now (a .part)) (c .before .before .before .loop .i) (c .before .before .loop-test .taken) (c .if1 .taken)) ∙ c .before .before .before .loop .inv .1
 
--- src/lib.rt:61:9
 add-i : tie.Need-add-i Inv-loop μ-loop
-add-i c = ?
+add-i c = omega arith
 
--- src/lib.rt:57:5
 loop-less : tie.Need-loop-less Inv-loop μ-loop
-loop-less c = ?
+loop-less c = omega arith
 
--- src/lib.rt:57:5
 loop-again : tie.Need-loop-again Inv-loop μ-loop
-loop-again c = ?
+loop-again c =
+    let a = c .before .before .before .before .args in (
+      omega arith,
+      sym (all-more (a .b) (now (a .part)) (c .before .before .before .loop .i) (c .before .before .loop-test .taken) (c .if1 .left)) ∙ c .before .before .before .loop .inv .1,
+    )
 
--- src/lib.rt:53:1
 returns-2 : tie.Need-returns-2 Inv-loop μ-loop
-returns-2 c = ?
+returns-2 c =
+    let a = c .before .before .args in
+    sym (all-end (a .b) (now (a .part)) (c .before .loop .i) (c .loop-test .left)) ∙ c .before .loop .inv .1
 
 pub all-are-spec : {M : Type 1} → statement M
 all-are-spec =

@@ -1,40 +1,45 @@
+-- `fields::u16_at` meets its contract: two bytes, the first counting least.
+-- Assumes nothing.
+use Prim.Native.Nat.{_+_}
+use mathlib.Core.Path.{_≡_, sym, _∙_}
+use native.Mathlib.Omega.{arith}
+use denote.Ref.{now}
+use lib.ListN.{getD}
 use borrow.Author.Needs.{needs}
+use Rattle.fields.specs.Fields.{readAt}
+use Rattle.fields.proofs.ByteLaws.{readAt-one, readAt-wider}
 use Rattle.fields.proofs.u16_at.Statement.{statement}
 use Rattle.fields.proofs.u16_at.Tie as tie
-use Rattle.fields.proofs.u16_at.Reads as reads
-use Rattle.fields.proofs.u16_at.Lts as lts
 
--- src/lib.rt:11:6
 shared-slice-read-result : tie.Need-shared-slice-read-result
 shared-slice-read-result c = search needs
 
--- src/lib.rt:11:6
 cast-result : tie.Need-cast-result
-cast-result c = ?
+cast-result c = omega (arith, c .shared-slice-known .given (c .before .args .at))
 
--- src/lib.rt:11:25
 add-result : tie.Need-add-result
 add-result c = search needs
 
--- src/lib.rt:11:23
 shared-slice-read-result-2 : tie.Need-shared-slice-read-result-2
 shared-slice-read-result-2 c = search needs
 
--- src/lib.rt:11:23
 cast-result-2 : tie.Need-cast-result-2
-cast-result-2 c = ?
+cast-result-2 c = omega (arith, c .shared-slice-known2 .given (c .before .before .args .at + 1))
 
--- src/lib.rt:11:22
 mul-result : tie.Need-mul-result
-mul-result c = ?
+mul-result c = omega (arith, c .shared-slice-known2 .given (c .before .before .args .at + 1))
 
--- src/lib.rt:11:5
 add-result-2 : tie.Need-add-result-2
-add-result-2 c = ?
+add-result-2 c =
+    let a = c .before .before .args in
+    omega (arith, c .before .shared-slice-known .given (a .at), c .shared-slice-known2 .given (a .at + 1))
 
--- src/lib.rt:7:1
 returns : tie.Need-returns
-returns c = ?
+returns c =
+    let a = c .before .before .args in
+    let low : readAt 1 (now (a .s)) (a .at) ≡ getD (now (a .s)) (a .at) 0 = readAt-one (now (a .s)) (a .at) (omega arith) in
+    let high : readAt 1 (now (a .s)) (a .at + 1) ≡ getD (now (a .s)) (a .at + 1) 0 = readAt-one (now (a .s)) (a .at + 1) (omega arith) in
+    sym (readAt-wider 1 1 (now (a .s)) (a .at) (omega arith) ∙ (rw (low, high)))
 
 pub u16-at-spec : {M : Type 1} → statement M
 u16-at-spec =

@@ -1,41 +1,38 @@
+-- `fields::u32_at` meets its contract: two halves, the first counting least.
+-- Assumes nothing.
+use mathlib.Core.Path.{sym, _∙_}
+use native.Mathlib.Omega.{arith}
+use denote.Ref.{now}
 use borrow.Author.Needs.{needs}
+use Rattle.fields.proofs.ByteLaws.{readAt-wider}
 use Rattle.fields.proofs.u32_at.Statement.{statement}
 use Rattle.fields.proofs.u32_at.Tie as tie
-use Rattle.fields.proofs.u32_at.Reads as reads
-use Rattle.fields.proofs.u32_at.Lts as lts
-use Rattle.fields.proofs.u16_at.Reads as u16-at-reads
 
--- src/lib.rt:18:6
 u16-at-requires : tie.Need-u16-at-requires
 u16-at-requires c κs = search needs
 
--- src/lib.rt:18:6
 cast-result : tie.Need-cast-result
 cast-result c = search needs
 
--- src/lib.rt:18:41
 add-u16-at : tie.Need-add-u16-at
 add-u16-at c = search needs
 
--- src/lib.rt:18:31
 u16-at-requires-2 : tie.Need-u16-at-requires-2
 u16-at-requires-2 c κs = search needs
 
--- src/lib.rt:18:31
 cast-result-2 : tie.Need-cast-result-2
 cast-result-2 c = search needs
 
--- src/lib.rt:18:30
 mul-result : tie.Need-mul-result
 mul-result c = search needs
 
--- src/lib.rt:18:5
 add-result : tie.Need-add-result
 add-result c = search needs
 
--- src/lib.rt:14:1
 returns : tie.Need-returns
-returns c = ?
+returns c =
+    let a = c .before .before .before .args in
+    sym (readAt-wider 2 2 (now (a .s)) (a .at) (omega arith) ∙ (rw (← (c .before .u16-at .ensures), ← (c .u16-at2 .ensures))))
 
 pub u32-at-spec : {M : Type 1} → statement M
 u32-at-spec =

@@ -27,15 +27,15 @@ returns : tie.Need-returns
 unfolding emptyState
 returns c =
     λ i.
-      record
-      { tasks = replicate 64 (c .before .before .blank .ensures i)
-      ; sems = replicate 16 (c .before .blank2 .ensures i)
-      ; n = 0
-      ; m = 0
-      ; last = 0
-      ; board = c .no-figures .ensures i
-      ; present = false
-      }
+    record {
+      tasks = replicate 64 (c .before .before .blank .ensures i);
+      sems = replicate 16 (c .before .blank2 .ensures i);
+      n = 0;
+      m = 0;
+      last = 0;
+      board = c .no-figures .ensures i;
+      present = false;
+    }
 
 pub empty-spec : {M : Type 1} → statement M
 empty-spec = tie.close (tie.spec blank-requires blank-requires-2 no-figures-requires returns)

@@ -51,11 +51,12 @@ loop-less c = search needs
 -- src/lookup.rt:32:9
 loop-again : tie.Need-loop-again Inv-loop μ-loop
 loop-again c =
-    let a = c .before .before .before .args in
-    ( search needs
-    , come-miss (λ t. eqb (t .number) (a .number)) (a .t1 .sems) (a .t1 .m) (c .before .before .loop .k) _ (c .before .loop-test .taken)
-    (omega arith)
-    (ne-eqb _ _ (c .if1 .left)) (c .before .before .loop .inv .1))
+    let a = c .before .before .before .args in (
+      search needs,
+      come-miss (λ t. eqb (t .number) (a .number)) (a .t1 .sems) (a .t1 .m) (c .before .before .loop .k) _ (c .before .loop-test .taken)
+          (omega arith)
+          (ne-eqb _ _ (c .if1 .left)) (c .before .before .loop .inv .1),
+    )
 
 -- src/lookup.rt:26:5
 returns-2 : tie.Need-returns-2 Inv-loop μ-loop

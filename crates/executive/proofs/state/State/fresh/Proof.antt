@@ -27,15 +27,15 @@ returns : tie.Need-returns
 unfolding freshState
 returns c =
     λ i.
-      record
-      { tasks = replicate 64 (c .before .before .blank .ensures i)
-      ; sems = replicate 16 (c .before .blank2 .ensures i)
-      ; n = 0
-      ; m = 0
-      ; last = 0
-      ; board = c .built-in .ensures i
-      ; present = false
-      }
+    record {
+      tasks = replicate 64 (c .before .before .blank .ensures i);
+      sems = replicate 16 (c .before .blank2 .ensures i);
+      n = 0;
+      m = 0;
+      last = 0;
+      board = c .built-in .ensures i;
+      present = false;
+    }
 
 pub fresh-spec : {M : Type 1} → statement M
 fresh-spec = tie.close (tie.spec blank-requires blank-requires-2 built-in-requires returns)
