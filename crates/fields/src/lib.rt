@@ -67,9 +67,9 @@ pub fn all_are(part: &[u8], b: u8) -> bool
 pub fn fill(part: &mut [u8], b: u8)
     ensures { λ _. ⌜ now (part .exit) ≡ replicate (length (now (part .entry))) b ⌝ }
 {
-    let mut i: usize = 0;
-    while i < part.len() {
-        part[i] = b;
-        i += 1;
+    let mut at: usize = 0;
+    while at < part.len() {
+        part[at] = b;
+        at += 1;
     }
 }
