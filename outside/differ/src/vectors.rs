@@ -1,0 +1,147 @@
+//! Stored images and call scripts with their expected answers: NNNN.img with NNNN.out, and NNNN.calls.
+
+use crate::expected::call_of;
+use crate::subjects::SUBJECTS;
+use model::dispatch::Model;
+use model::judge::report;
+use std::fs;
+use std::path::{Path, PathBuf};
+
+/// What the checking program prints, made of what a judging answers.
+pub fn printed(judge: fn(&[u8], &mut [u8]) -> u64, image: &[u8]) -> String {
+    let mut out = [0; 1032];
+    judge(image, &mut out);
+    let u16_at = |at: usize| u16::from_le_bytes([out[at], out[at + 1]]);
+    if out[0] != 0 {
+        return format!("image {} {}\n", out[0], u16_at(2));
+    }
+    let mut text = String::new();
+    for i in 0..usize::from(u16_at(6)) {
+        let at = 8 + 16 * i;
+        let charge = u64::from_le_bytes(out[at + 8..at + 16].try_into().unwrap());
+        text += &format!("task {} {} {}\n", u16_at(at), out[at + 2], charge);
+    }
+    text + &format!("verdict {} {}\n", out[1], u16_at(4))
+}
+
+fn unhex(text: &str) -> Vec<u8> {
+    (0..text.len() / 2).map(|i| u8::from_str_radix(&text[2 * i..2 * i + 2], 16).unwrap()).collect()
+}
+
+/// One line of a call script: its record, the answer, the running task and every task's standing.
+struct Line {
+    record: [u8; 16],
+    answer: u8,
+    running: u16,
+    standings: Vec<(u16, u8, u64, u8)>,
+}
+
+fn parse(line: &str) -> Option<Line> {
+    let words: Vec<&str> = line.split_whitespace().collect();
+    let arrow = words.iter().position(|w| *w == "->")?;
+    let mut record = [0; 16];
+    record[0] = ["release", "signal", "withdraw", "acquire", "give", "complete", "block"].iter().position(|n| *n == words[0])? as u8 + 1;
+    if arrow > 1 {
+        record[2..4].copy_from_slice(&words[1].parse::<u16>().ok()?.to_le_bytes());
+    }
+    if arrow > 2 {
+        record[8..16].copy_from_slice(&words[2].parse::<u64>().ok()?.to_le_bytes());
+    }
+    let standings = words[arrow + 5..].iter().map(|word| {
+        let (number, rest) = word.split_once(':')?;
+        let parts: Vec<&str> = rest.split(',').collect();
+        Some((number.parse().ok()?, parts[0].parse().ok()?, parts[1].parse().ok()?, parts[2].parse().ok()?))
+    });
+    Some(Line {
+        record,
+        answer: words[arrow + 1].parse().ok()?,
+        running: words[arrow + 3].parse().ok()?,
+        standings: standings.collect::<Option<Vec<_>>>()?,
+    })
+}
+
+/// The script that asks for every standing after every call, and what each record must answer.
+fn expand(lines: &[Line]) -> (Vec<u8>, Vec<u8>) {
+    let (mut script, mut wanted) = (Vec::new(), Vec::new());
+    for line in lines {
+        for (i, (number, queue, deadline, position)) in line.standings.iter().enumerate() {
+            let mut record = if i == 0 { line.record } else { [0; 16] };
+            record[4..6].copy_from_slice(&number.to_le_bytes());
+            script.extend(record);
+            let mut part = [0; 32];
+            part[0] = if i == 0 { line.answer } else { 255 };
+            part[2..4].copy_from_slice(&line.running.to_le_bytes());
+            part[5] = *queue;
+            part[6] = *position;
+            part[8..16].copy_from_slice(&deadline.to_le_bytes());
+            wanted.extend(part);
+        }
+    }
+    (script, wanted)
+}
+
+fn play(path: &Path) -> Result<usize, String> {
+    let text = fs::read_to_string(path).map_err(|e| format!("{}: {e}", path.display()))?;
+    let mut rows = text.lines();
+    let image = unhex(rows.next().and_then(|l| l.strip_prefix("image ")).ok_or("no image line")?.trim());
+    let lines: Option<Vec<Line>> = rows.filter(|l| !l.trim().is_empty()).map(parse).collect();
+    let lines = lines.ok_or_else(|| format!("{}: a line that is no call", path.display()))?;
+    let mut model = Model::new(model::image::read(&image).map_err(|r| format!("{}: {r:?}", path.display()))?);
+    for (i, line) in lines.iter().enumerate() {
+        let answer = model.call(call_of(&line.record).unwrap());
+        let standings = model.standings();
+        let same = line.standings.iter().zip(&standings).all(|(w, g)| (w.1, w.2, usize::from(w.3)) == *g);
+        if answer != line.answer || model.running() != line.running || !same || standings.len() != line.standings.len() {
+            return Err(format!("{}: the model differs at call {i}", path.display()));
+        }
+    }
+    let (script, wanted) = expand(&lines);
+    for subject in &SUBJECTS {
+        let mut out = vec![170; wanted.len()];
+        (subject.play)(&image, &script, &mut out);
+        if out != wanted {
+            return Err(format!("{}: {} differs", path.display(), subject.name));
+        }
+    }
+    Ok(lines.len())
+}
+
+fn judge(path: &Path) -> Result<(), String> {
+    let image = fs::read(path).map_err(|e| format!("{}: {e}", path.display()))?;
+    let wanted = fs::read_to_string(path.with_extension("out")).map_err(|e| format!("{}: {e}", path.display()))?;
+    if report(&image) != wanted {
+        return Err(format!("{}: the model differs", path.display()));
+    }
+    for subject in &SUBJECTS {
+        if printed(subject.judge, &image) != wanted {
+            return Err(format!("{}: {} differs", path.display(), subject.name));
+        }
+        let mut buffer = vec![170; image.len()];
+        let rewritten = (subject.rewrite)(&image, &mut buffer);
+        if (rewritten == 0) != !wanted.starts_with("image") || (rewritten == 0 && buffer != image) {
+            return Err(format!("{}: {} does not write the image back", path.display(), subject.name));
+        }
+    }
+    Ok(())
+}
+
+/// Runs every image and script of a folder.
+pub fn run(folder: &Path) -> Result<(usize, usize), String> {
+    let mut paths: Vec<PathBuf> = fs::read_dir(folder)
+        .map_err(|e| format!("{}: {e}", folder.display()))?
+        .filter_map(|entry| entry.ok().map(|e| e.path()))
+        .collect();
+    paths.sort();
+    let (mut images, mut calls) = (0, 0);
+    for path in paths {
+        match path.extension().and_then(|e| e.to_str()) {
+            Some("img") => {
+                judge(&path)?;
+                images += 1;
+            }
+            Some("calls") => calls += play(&path)?,
+            _ => {}
+        }
+    }
+    Ok((images, calls))
+}
