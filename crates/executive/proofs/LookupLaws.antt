@@ -82,5 +82,5 @@ module _ (s : State) (sound : Sound s) where
       let number = (getD (tasksOf s) i blankTask) .number in
       found-only (λ t. eqb (t .number) number) (tasksOf s) i blankTask (omega arith) (eq-eqb number number refl)
       (λ j k t.
-        once (tasksOf s) blankTask ((sound .table (omega arith)) .taskNumbers) j i k (omega arith)
-        (eqb-true ((getD (tasksOf s) j blankTask) .number) number t))
+      once (tasksOf s) blankTask ((sound .table (omega arith)) .taskNumbers) j i k (omega arith)
+      (eqb-true ((getD (tasksOf s) j blankTask) .number) number t))
