@@ -53,15 +53,9 @@ impl State {
     fn runner(&self) -> Option<usize> {
         let mut best: Option<(Standing, usize)> = None;
         for (i, task) in self.tasks().iter().enumerate() {
-            if matches!(task.status, Status::Idle | Status::Event) {
-                continue;
-            }
-            let standing = own(task, i);
-            if best.is_some_and(|(b, _)| b < standing) {
-                continue;
-            }
             let end = self.end(i);
-            if self.tasks[end].status == Status::Ready {
+            let standing = own(task, i);
+            if self.tasks[end].status == Status::Ready && best.is_none_or(|(b, _)| standing < b) {
                 best = Some((standing, end));
             }
         }
@@ -75,11 +69,8 @@ impl State {
     fn standing_at(&self, i: usize) -> Standing {
         let mut best = own(&self.tasks[i], i);
         for (j, task) in self.tasks().iter().enumerate() {
-            if matches!(task.status, Status::Waits(_)) {
-                let standing = own(task, j);
-                if standing < best && self.reaches(j, i) {
-                    best = standing;
-                }
+            if self.reaches(j, i) {
+                best = best.min(own(task, j));
             }
         }
         best
@@ -139,23 +130,24 @@ impl State {
         90
     }
 
-    /// The waiter of best standing: the first task on the best chain that waits for the semaphore itself.
+    /// The task on a chain of waits that waits for the semaphore itself.
+    fn waiter_on_chain(&self, mut i: usize, k: usize) -> Option<usize> {
+        loop {
+            if self.tasks[i].status == Status::Waits(k as u8) {
+                return Some(i);
+            }
+            i = self.waits_on(i)?;
+        }
+    }
+
+    /// The waiter of best standing: the one on the chain of best own standing.
     fn heir(&self, k: usize) -> Option<usize> {
         let mut best: Option<(Standing, usize)> = None;
         for (i, task) in self.tasks().iter().enumerate() {
             let standing = own(task, i);
-            if !matches!(task.status, Status::Waits(_)) || best.is_some_and(|(b, _)| b < standing) {
-                continue;
-            }
-            let mut at = i;
-            loop {
-                if self.tasks[at].status == Status::Waits(k as u8) {
-                    best = Some((standing, at));
-                    break;
-                }
-                match self.waits_on(at) {
-                    Some(next) => at = next,
-                    None => break,
+            if let Some(waiter) = self.waiter_on_chain(i, k) {
+                if best.is_none_or(|(b, _)| standing < b) {
+                    best = Some((standing, waiter));
                 }
             }
         }
