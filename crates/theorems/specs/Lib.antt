@@ -1,2 +1,3 @@
 -- What is shown of the whole executive: the statements.
 pub mod Tight
+pub mod When
