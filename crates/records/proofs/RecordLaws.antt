@@ -1,7 +1,8 @@
 -- The laws of one record: what was decoded is encoded to the same bytes, and what was encoded is decoded to the same entry.
 -- Assumes nothing.
-use Prim.Native.Nat.{ℕ, suc, _+_, _≤_, _<_}
+use Prim.Native.Nat.{ℕ, suc, _+_, _/_, _%_, _≤_, _<_}
 use mathlib.Core.Path.{_≡_, refl, sym, ap, _∙_}
+use mathlib.Core.Logic.{_⊎_, inl, inr}
 use mathlib.Core.Bool.{Bool, true, false, cond, _&&_}
 use mathlib.Core.List.{List, [], _∷_, _++_}
 use native.Mathlib.Omega.{arith}
@@ -15,13 +16,13 @@ use Rattle.table.specs.declared.Board.{Board}
 use Rattle.table.specs.declared.Status.the-variants.{Idle}
 use Rattle.table.specs.declared.Holder.the-variants.{Free}
 use Rattle.table.specs.WellFormed.{within, taskInRange, semInRange, boardInRange}
-use Rattle.table.proofs.SumLaws.{both-left, both-right}
+use Rattle.table.proofs.SumLaws.{both, both-left, both-right}
 use Rattle.table.proofs.OrderLaws.{within-true, TaskRange, task-range, BoardRange, board-range}
 use Rattle.fields.specs.Fields.{valueOf, bytesOf, readAt, putAt, allAre}
 use Rattle.fields.proofs.ByteLaws.{bytesOf-valueOf, valueOf-bytesOf, all-replicate, all-stop}
 use Rattle.records.specs.declared.Decoded.{Decoded}
 use Rattle.records.specs.declared.Decoded.the-variants.{Erased, TaskRecord, BoardRecord, SemRecord, Refused}
-use Rattle.records.specs.Records.{Bytes, taskIn, boardIn, semIn, unlessOutOfRange, taskDecoded, boardDecoded, semDecoded, decoded, encodeTask, encodeBoard, encodeSem}
+use Rattle.records.specs.Records.{Bytes, taskIn, boardIn, semIn, unlessOutOfRange, taskDecoded, boardDecoded, semDecoded, decoded, loadedTask, loadedSem, encodeTask, encodeBoard, encodeSem}
 
 -- 32 zeros, with the kind and the fields of an entry put into them, are the entry's bytes
 pub task-put : (t : Task)
@@ -122,3 +123,125 @@ rest-whole r at n h = take-all n (drop at r) (rw (length-drop at r) (omega arith
 -- a record whose first byte is not 255 is not erased
 pub not-erased : (r : List ℕ) → 1 ≤ length r → (getD r 0 0 ≡ 255 → ⊥) → allAre 255 r ≡ false
 not-erased r h e = all-stop 255 r 0 h e
+
+-- what was encoded is decoded to the same entry, as it is after loading
+pub decoded-task : (t : Task) → taskInRange t ≡ true → decoded (encodeTask t) ≡ TaskRecord (loadedTask t)
+unfolding decoded taskDecoded taskIn encodeTask bytesOf readAt allAre taskInRange
+decoded-task t h =
+    let r = task-range t h in
+    let same : taskIn (encodeTask t) ≡ loadedTask t =
+    λ i.
+    record {
+      deadline = 0;
+      period = valueOf-bytesOf 4 (t .period) (omega arith) i;
+      cost = valueOf-bytesOf 4 (t .cost) (omega arith) i;
+      number = valueOf-bytesOf 2 (t .number) (omega arith) i;
+      queue = t .queue;
+      status = Idle;
+    } in
+    sym (taken-as (taskInRange (taskIn (encodeTask t)) && true) (TaskRecord (taskIn (encodeTask t))) (both (taskInRange (taskIn (encodeTask t))) true (ap taskInRange same ∙ h) refl))
+    ∙ ap TaskRecord same
+
+pub decoded-board : (b : Board) → boardInRange b ≡ true → decoded (encodeBoard b) ≡ BoardRecord b
+unfolding decoded boardDecoded boardIn encodeBoard bytesOf readAt allAre
+decoded-board b h =
+    let r = board-range b h in
+    let same : boardIn (encodeBoard b) ≡ b =
+    λ i.
+    record {
+      «dp_block» = valueOf-bytesOf 2 (b .«dp_block») (omega arith) i;
+      «dp_unblock» = valueOf-bytesOf 2 (b .«dp_unblock») (omega arith) i;
+      «dp_select» = valueOf-bytesOf 2 (b .«dp_select») (omega arith) i;
+      «dp_select_task» = valueOf-bytesOf 2 (b .«dp_select_task») (omega arith) i;
+      «fp_block» = valueOf-bytesOf 2 (b .«fp_block») (omega arith) i;
+      «fp_block_task» = valueOf-bytesOf 2 (b .«fp_block_task») (omega arith) i;
+      «fp_unblock» = valueOf-bytesOf 2 (b .«fp_unblock») (omega arith) i;
+      «fp_select» = valueOf-bytesOf 2 (b .«fp_select») (omega arith) i;
+      «per_queue» = valueOf-bytesOf 2 (b .«per_queue») (omega arith) i;
+    } in
+    sym (taken-as (boardInRange (boardIn (encodeBoard b)) && true) (BoardRecord (boardIn (encodeBoard b))) (both (boardInRange (boardIn (encodeBoard b))) true (ap boardInRange same ∙ h) refl))
+    ∙ ap BoardRecord same
+
+pub decoded-sem : (s : Sem) → semInRange s ≡ true → decoded (encodeSem s) ≡ SemRecord (loadedSem s)
+unfolding decoded semDecoded semIn encodeSem bytesOf readAt allAre semInRange
+decoded-sem s h =
+    let w = within-true 1 (s .number) 65535 h in
+    let same : semIn (encodeSem s) ≡ loadedSem s = λ i. record { number = valueOf-bytesOf 2 (s .number) (omega arith) i; holder = Free } in
+    sym (taken-as (semInRange (semIn (encodeSem s)) && true) (SemRecord (semIn (encodeSem s))) (both (semInRange (semIn (encodeSem s))) true (ap semInRange same ∙ h) refl))
+    ∙ ap SemRecord same
+
+-- an erased record
+pub decoded-erased : decoded (replicate 32 255) ≡ Erased
+unfolding decoded allAre
+decoded-erased = refl
+
+-- what a decoded record says of the record's bytes: an entry's bytes are the record, and the entry is in its ranges and as after loading
+pub data Said (r : List ℕ) : Decoded → Type 0 where
+  erased : allAre 255 r ≡ true → Said r Erased
+  task : {t : Task} → encodeTask t ≡ r → taskInRange t ≡ true → loadedTask t ≡ t → Said r (TaskRecord t)
+  board : {b : Board} → encodeBoard b ≡ r → boardInRange b ≡ true → Said r (BoardRecord b)
+  sem : {s : Sem} → encodeSem s ≡ r → semInRange s ≡ true → loadedSem s ≡ s → Said r (SemRecord s)
+  unknown : Said r (Refused 2)
+  bad : Said r (Refused 4)
+
+module _ (r : List ℕ) (n : length r ≡ 32) (bytes : Bytes r) where
+  said-task : getD r 0 0 ≡ 1 → (t : Bool) → (taskInRange (taskIn r) && allAre 0 (drop 12 r)) ≡ t → Said r (unlessOutOfRange t (TaskRecord (taskIn r)))
+  unfolding unlessOutOfRange taskIn
+  said-task k true h =
+      let range = taskInRange (taskIn r) in
+      let rest = allAre 0 (drop 12 r) in
+      task (task-back r n bytes k (both-right range rest h)) (both-left range rest h) refl
+  said-task k false h = bad
+
+  said-board : getD r 0 0 ≡ 2 → (t : Bool) → (eqb (getD r 1 0) 0 && boardInRange (boardIn r) && allAre 0 (drop 20 r)) ≡ t
+      → Said r (unlessOutOfRange t (BoardRecord (boardIn r)))
+  unfolding unlessOutOfRange
+  said-board k true h =
+      let one = eqb (getD r 1 0) 0 in
+      let range = boardInRange (boardIn r) in
+      let rest = allAre 0 (drop 20 r) in
+      let both-first = both-left (one && range) rest h in
+      board (board-back r n bytes k (eqb-true (getD r 1 0) 0 (both-left one range both-first)) (both-right (one && range) rest h)) (both-right one range both-first)
+  said-board k false h = bad
+
+  said-sem : getD r 0 0 ≡ 3 → (t : Bool) → (eqb (getD r 1 0) 0 && semInRange (semIn r) && allAre 0 (drop 4 r)) ≡ t
+      → Said r (unlessOutOfRange t (SemRecord (semIn r)))
+  unfolding unlessOutOfRange semIn
+  said-sem k true h =
+      let one = eqb (getD r 1 0) 0 in
+      let range = semInRange (semIn r) in
+      let rest = allAre 0 (drop 4 r) in
+      let both-first = both-left (one && range) rest h in
+      sem (sem-back r n bytes k (eqb-true (getD r 1 0) 0 (both-left one range both-first)) (both-right (one && range) rest h)) (both-right one range both-first) refl
+  said-sem k false h = bad
+
+  pub said : Said r (decoded r)
+  unfolding decoded taskDecoded boardDecoded semDecoded
+  said = whole (allAre 255 r) refl
+    where
+      third : (t : Bool) → eqb (getD r 0 0) 3 ≡ t → Said r (cond t (semDecoded r) (Refused 2))
+      third true h = said-sem (eqb-true (getD r 0 0) 3 h) (eqb (getD r 1 0) 0 && semInRange (semIn r) && allAre 0 (drop 4 r)) refl
+      third false h = unknown
+
+      second : (t : Bool) → eqb (getD r 0 0) 2 ≡ t → Said r (cond t (boardDecoded r) (cond (eqb (getD r 0 0) 3) (semDecoded r) (Refused 2)))
+      second true h = said-board (eqb-true (getD r 0 0) 2 h) (eqb (getD r 1 0) 0 && boardInRange (boardIn r) && allAre 0 (drop 20 r)) refl
+      second false h = third (eqb (getD r 0 0) 3) refl
+
+      first : (t : Bool) → eqb (getD r 0 0) 1 ≡ t
+          → Said r (cond t (taskDecoded r) (cond (eqb (getD r 0 0) 2) (boardDecoded r) (cond (eqb (getD r 0 0) 3) (semDecoded r) (Refused 2))))
+      first true h = said-task (eqb-true (getD r 0 0) 1 h) (taskInRange (taskIn r) && allAre 0 (drop 12 r)) refl
+      first false h = second (eqb (getD r 0 0) 2) refl
+
+      whole : (t : Bool) → allAre 255 r ≡ t
+          → Said r (cond t Erased (cond (eqb (getD r 0 0) 1) (taskDecoded r) (cond (eqb (getD r 0 0) 2) (boardDecoded r) (cond (eqb (getD r 0 0) 3) (semDecoded r) (Refused 2)))))
+      whole true h = erased h
+      whole false h = first (eqb (getD r 0 0) 1) refl
+
+-- a record is refused with 2 or with 4
+pub refused-number : {r : List ℕ} {d : Decoded} → Said r d → (k : ℕ) → d ≡ Refused k → (k ≡ 2) ⊎ (k ≡ 4)
+refused-number unknown k e = inl (cc)
+refused-number bad k e = inr (cc)
+refused-number (erased h) k e = let z : _≡_ {A = ℕ} 0 1 = cc in absurd (omega arith)
+refused-number (task h i j) k e = let z : _≡_ {A = ℕ} 0 1 = cc in absurd (omega arith)
+refused-number (board h i) k e = let z : _≡_ {A = ℕ} 0 1 = cc in absurd (omega arith)
+refused-number (sem h i j) k e = let z : _≡_ {A = ℕ} 0 1 = cc in absurd (omega arith)
