@@ -1,0 +1,2 @@
+-- The laws of loading and writing, and the round trips.
+pub mod LoadLaws

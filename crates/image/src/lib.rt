@@ -1,0 +1,2 @@
+// The table image: loading a state from it, and writing it back.
+pub mod load;
