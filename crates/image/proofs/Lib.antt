@@ -1,2 +1,3 @@
 -- The laws of loading and writing, and the round trips.
 pub mod LoadLaws
+pub mod WriteLaws

@@ -245,3 +245,16 @@ refused-number (erased h) k e = let z : _≡_ {A = ℕ} 0 1 = cc in absurd (omeg
 refused-number (task h i j) k e = let z : _≡_ {A = ℕ} 0 1 = cc in absurd (omega arith)
 refused-number (board h i) k e = let z : _≡_ {A = ℕ} 0 1 = cc in absurd (omega arith)
 refused-number (sem h i j) k e = let z : _≡_ {A = ℕ} 0 1 = cc in absurd (omega arith)
+
+-- every record has 32 bytes
+pub length-task : (t : Task) → length (encodeTask t) ≡ 32
+unfolding encodeTask bytesOf
+length-task t = refl
+
+pub length-board : (b : Board) → length (encodeBoard b) ≡ 32
+unfolding encodeBoard bytesOf
+length-board b = refl
+
+pub length-sem : (s : Sem) → length (encodeSem s) ≡ 32
+unfolding encodeSem bytesOf
+length-sem s = refl
