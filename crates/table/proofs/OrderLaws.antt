@@ -133,3 +133,37 @@ once (t ∷ rest) d h (suc i) zero hi hj e = absurd (twice t rest d h i (le-of-s
 once (t ∷ rest) d h (suc i) (suc j) hi hj e =
     let behind = any (λ u. eqb (u .number) (t .number)) rest in
     ap suc (once rest d (both-right (not behind) (usedOnce rest) h) i j (le-of-suc-le-suc hi) (le-of-suc-le-suc hj) e)
+
+-- a task whose fields lie in their ranges is in range, and so is a board
+pub task-in-range : (t : Task) → TaskRange t → taskInRange t ≡ true
+unfolding taskInRange
+task-in-range t r =
+    let q = within 1 (t .queue) 3 in
+    let n = within 1 (t .number) 65535 in
+    let p = within 1000 (t .period) 100000000 in
+    let c = within 1 (t .cost) (t .period) in
+    both (q && n && p) c
+    (both (q && n) p
+    (both q n (true-within 1 (t .queue) 3 (r .queueLeast) (r .queueMost)) (true-within 1 (t .number) 65535 (r .numberLeast) (r .numberMost)))
+    (true-within 1000 (t .period) 100000000 (r .periodLeast) (r .periodMost)))
+    (true-within 1 (t .cost) (t .period) (r .costLeast) (r .costMost))
+
+pub board-in-range : (b : Board) → BoardRange b → boardInRange b ≡ true
+unfolding boardInRange
+board-in-range b r =
+    simp (
+      le-leb (b .«dp_block») 10000 (r .dpBlock),
+      le-leb (b .«dp_unblock») 10000 (r .dpUnblock),
+      le-leb (b .«dp_select») 10000 (r .dpSelect),
+      le-leb (b .«dp_select_task») 10000 (r .dpSelectTask),
+      le-leb (b .«fp_block») 10000 (r .fpBlock),
+      le-leb (b .«fp_block_task») 10000 (r .fpBlockTask),
+      le-leb (b .«fp_unblock») 10000 (r .fpUnblock),
+      le-leb (b .«fp_select») 10000 (r .fpSelect),
+      le-leb (b .«per_queue») 10000 (r .perQueue),
+    )
+
+-- a test that cannot hold does not
+pub not-so : (b : Bool) → (b ≡ true → ⊥) → b ≡ false
+not-so true h = absurd (h refl)
+not-so false h = refl

@@ -3,12 +3,12 @@
 use Prim.Native.Nat.{ℕ, zero, suc, _+_, _*_, _≤_, _<_}
 use mathlib.Core.Path.{_≡_, refl, sym, ap, _∙_}
 use mathlib.Core.Bool.{Bool, true, false, cond, _&&_, _||_}
-use mathlib.Core.List.{List, [], _∷_, _++_}
+use mathlib.Core.List.{List, [], _∷_, _++_, map}
 use native.Mathlib.Nat.{add-assoc, zero-add, add-zero, le-refl, le-of-suc-le-suc, not-suc-le-zero, zero-mul, suc-mul}
 use native.Mathlib.Numerals.{add-one}
 use native.Mathlib.Omega.{arith}
-use lib.ListN.{length, getD, take, drop}
-use lib.Seq.{take-suc}
+use lib.ListN.{length, getD, take, drop, drop-of-length-le}
+use lib.Seq.{take-suc, drop-cons}
 use Rattle.table.specs.Sums.{sumOf, countOf, every, any}
 
 -- both halves of a conjunction, and a conjunction of both
@@ -119,3 +119,19 @@ module _ {A : Type 0} where
       neither-right : (a b : Bool) → (a || b) ≡ false → b ≡ false
       neither-right true b e = let z : _≡_ {A = ℕ} 0 1 = cc in absurd (omega arith)
       neither-right false b e = e
+
+  -- a search for an entry that passes: the entry at i, or the rest; at the end none
+  pub any-more : (test : A → Bool) (l : List A) (i : ℕ) (d : A) → i < length l → any test (drop i l) ≡ (test (getD l i d) || any test (drop (i + 1) l))
+  unfolding any
+  any-more test l i d h =
+      ap (any test) (drop-cons l i d h) ∙ ap (λ (n : ℕ). test (getD l i d) || any test (drop n l)) (sym (add-one i))
+
+  pub any-end : (test : A → Bool) (l : List A) (i : ℕ) → length l ≤ i → any test (drop i l) ≡ false
+  unfolding any
+  any-end test l i h = ap (any test) (drop-of-length-le l h)
+
+-- a test of what a function makes of the entries
+pub any-map : {A B : Type 0} (f : A → B) (test : B → Bool) (l : List A) → any test (map f l) ≡ any (λ x. test (f x)) l
+unfolding any
+any-map f test [] = refl
+any-map f test (x ∷ xs) = ap (λ (b : Bool). test (f x) || b) (any-map f test xs)

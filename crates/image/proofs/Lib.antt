@@ -1,0 +1,4 @@
+-- The laws of loading and writing, and the round trips.
+pub mod LoadLaws
+pub mod WriteLaws
+pub mod GrowLaws

@@ -1,0 +1,83 @@
+-- `Front::task_refusal` meets its contract: 3, 5, 8, 6.
+-- Assumes nothing.
+use Prim.Native.Nat.{ℕ}
+use mathlib.Core.Path.{_≡_, refl, sym, ap, _∙_}
+use mathlib.Core.Bool.{Bool, true, false, cond, not, _||_}
+use mathlib.Core.List.{List, [], _∷_}
+use native.Mathlib.Omega.{arith}
+use denote.Ref.{now}
+use lib.Dec.{eqb, leb, ltb}
+use borrow.Author.Tests.{eq-eqb, ne-eqb, lt-ltb, le-ltb, le-leb, lt-leb, not-true, not-false}
+use borrow.Author.Needs.{needs}
+use Rattle.table.specs.Refusals.{firstOf}
+use Rattle.table.specs.Sums.{any}
+use Rattle.table.specs.WellFormed.{taskBefore, semBefore}
+use Rattle.records.specs.declared.Decoded.{Decoded}
+use Rattle.records.specs.declared.Decoded.the-variants.{Erased, TaskRecord, BoardRecord, SemRecord, Refused}
+use Rattle.image.specs.Loading.{startFront, frontAfter, refusalOf, usedAfter, refusedAs, orderBroken, numberTwice, tooMany}
+use Rattle.image.proofs.load.Front.task_refusal.Statement.{statement}
+use Rattle.image.proofs.load.Front.task_refusal.Tie as tie
+
+returns : tie.Need-returns
+unfolding refusalOf firstOf usedAfter refusedAs orderBroken numberTwice tooMany
+returns c =
+    sym (simp (c .if1 .taken))
+
+returns-2 : tie.Need-returns-2
+unfolding refusalOf firstOf usedAfter refusedAs orderBroken numberTwice tooMany
+returns-2 c =
+    let f = c .before .before .before .before .args .self in sym (simp (c .before .before .if1 .left, ne-eqb (f .m) 0 (c .if2 .taken)))
+
+goes-on-with-requires : tie.Need-goes-on-with-requires
+goes-on-with-requires c κs = search needs
+
+returns-3 : tie.Need-returns-3
+unfolding refusalOf firstOf usedAfter refusedAs orderBroken numberTwice tooMany
+returns-3 c =
+    let f = c .before .before .before .before .before .before .args .self in
+    let x = c .before .before .before .before .before .before .args .task in
+    let out : (eqb (f .n) 0 || taskBefore (f .task) x) ≡ false = sym (c .before .goes-on-with .ensures) ∙ not-true (c .before .goes-on-with .result) (c .if3 .taken) in
+    sym (simp (c .before .before .before .before .if1 .left, eq-eqb (f .m) 0 (c .before .before .if2 .left), out))
+
+number-given-requires : tie.Need-number-given-requires
+number-given-requires c κs = search needs
+
+returns-4 : tie.Need-returns-4
+unfolding refusalOf firstOf usedAfter refusedAs orderBroken numberTwice tooMany
+returns-4 c =
+    let f = c .before .before .before .before .before .before .before .before .args .self in
+    let x = c .before .before .before .before .before .before .before .before .args .task in
+    let fine : (eqb (f .n) 0 || taskBefore (f .task) x) ≡ true = sym (c .before .before .before .goes-on-with .ensures) ∙ not-false (c .before .before .before .goes-on-with .result) (c .before .before .if3 .left) in
+    let twice : any (λ y. eqb y (x .number)) (now (c .before .before .before .before .before .before .before .before .args .given)) ≡ true = sym (c .before .number-given .ensures) ∙ c .if4 .taken in
+    sym (simp (c .before .before .before .before .before .before .if1 .left, eq-eqb (f .m) 0 (c .before .before .before .before .if2 .left), fine, twice))
+
+returns-5 : tie.Need-returns-5
+unfolding refusalOf firstOf usedAfter refusedAs orderBroken numberTwice tooMany
+returns-5 c =
+    let f = c .before .before .before .before .before .before .before .before .before .before .args .self in
+    let x = c .before .before .before .before .before .before .before .before .before .before .args .task in
+    let fine : (eqb (f .n) 0 || taskBefore (f .task) x) ≡ true = sym (c .before .before .before .before .before .goes-on-with .ensures) ∙ not-false (c .before .before .before .before .before .goes-on-with .result) (c .before .before .before .before .if3 .left) in
+    let new : any (λ y. eqb y (x .number)) (now (c .before .before .before .before .before .before .before .before .before .before .args .given)) ≡ false = sym (c .before .before .before .number-given .ensures) ∙ c .before .before .if4 .left in
+    sym (simp (c .before .before .before .before .before .before .before .before .if1 .left, eq-eqb (f .m) 0 (c .before .before .before .before .before .before .if2 .left), fine, new, le-leb 64 (f .n) (omega arith)))
+
+returns-6 : tie.Need-returns-6
+unfolding refusalOf firstOf usedAfter refusedAs orderBroken numberTwice tooMany
+returns-6 c =
+    let f = c .before .before .before .before .before .before .before .before .before .before .args .self in
+    let x = c .before .before .before .before .before .before .before .before .before .before .args .task in
+    let fine : (eqb (f .n) 0 || taskBefore (f .task) x) ≡ true = sym (c .before .before .before .before .before .goes-on-with .ensures) ∙ not-false (c .before .before .before .before .before .goes-on-with .result) (c .before .before .before .before .if3 .left) in
+    let new : any (λ y. eqb y (x .number)) (now (c .before .before .before .before .before .before .before .before .before .before .args .given)) ≡ false = sym (c .before .before .before .number-given .ensures) ∙ c .before .before .if4 .left in
+    sym (simp (c .before .before .before .before .before .before .before .before .if1 .left, eq-eqb (f .m) 0 (c .before .before .before .before .before .before .if2 .left), fine, new, lt-leb 64 (f .n) (omega arith)))
+
+pub task-refusal-spec : {M : Type 1} → statement M
+task-refusal-spec =
+    tie.close
+    (tie.spec
+    returns
+    returns-2
+    goes-on-with-requires
+    returns-3
+    number-given-requires
+    returns-4
+    returns-5
+    returns-6)

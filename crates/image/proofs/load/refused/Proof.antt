@@ -1,0 +1,17 @@
+-- `image::load::refused` meets its contract: the empty state, with the number and the place.
+-- Assumes nothing.
+use Rattle.image.specs.Loading.{refusedLoad}
+use borrow.Author.Needs.{needs}
+use Rattle.image.proofs.load.refused.Statement.{statement}
+use Rattle.image.proofs.load.refused.Tie as tie
+
+empty-requires : tie.Need-empty-requires
+empty-requires c κs = search needs
+
+returns : tie.Need-returns
+unfolding refusedLoad
+returns c =
+    λ i. record { state = c .empty .ensures i; number = c .before .args .number; place = c .before .args .place }
+
+pub refused-spec : {M : Type 1} → statement M
+refused-spec = tie.close (tie.spec empty-requires returns)

@@ -1,0 +1,3 @@
+// The table image: loading a state from it, and writing it back.
+pub mod load;
+pub mod write;

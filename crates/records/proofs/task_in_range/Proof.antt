@@ -1,0 +1,58 @@
+-- `records::task_in_range` meets its contract: each test is one bound of a field.
+-- Assumes nothing.
+use Prim.Native.Nat.{_≤_}
+use mathlib.Core.Path.{_≡_, sym}
+use native.Mathlib.Omega.{arith}
+use Rattle.table.specs.WellFormed.{taskInRange}
+use Rattle.table.proofs.OrderLaws.{TaskRange, task-range, task-in-range, not-so}
+use Rattle.records.proofs.task_in_range.Statement.{statement}
+use Rattle.records.proofs.task_in_range.Tie as tie
+
+returns : tie.Need-returns
+returns c =
+    let t = c .before .before .before .before .args .task in sym (not-so (taskInRange t) (λ h. let r = task-range t h in omega arith))
+
+returns-2 : tie.Need-returns-2
+returns-2 c =
+    let t = c .before .before .before .before .before .before .args .task in sym (not-so (taskInRange t) (λ h. let r = task-range t h in omega arith))
+
+returns-3 : tie.Need-returns-3
+returns-3 c =
+    let t = c .before .before .before .before .before .before .before .before .args .task in sym (not-so (taskInRange t) (λ h. let r = task-range t h in omega arith))
+
+returns-4 : tie.Need-returns-4
+returns-4 c =
+    let t = c .before .before .before .before .before .before .before .before .before .before .args .task in sym (not-so (taskInRange t) (λ h. let r = task-range t h in omega arith))
+
+returns-5 : tie.Need-returns-5
+returns-5 c =
+    let t = c .before .before .before .before .before .before .before .before .before .before .before .before .args .task in sym (not-so (taskInRange t) (λ h. let r = task-range t h in omega arith))
+
+returns-6 : tie.Need-returns-6
+returns-6 c =
+    let t = c .before .before .before .before .before .before .before .before .before .before .before .before .args .task in
+    sym
+    (task-in-range t
+    (record {
+      queueLeast = omega arith;
+      queueMost = omega arith;
+      numberLeast = omega arith;
+      numberMost = omega arith;
+      periodLeast = omega arith;
+      periodMost = omega arith;
+      costLeast = omega arith;
+      costMost = omega arith;
+    }))
+
+returns-7 : tie.Need-returns-7
+returns-7 c =
+    let t = c .before .args .task in sym (not-so (taskInRange t) (λ h. let r = task-range t h in omega arith))
+
+returns-8 : tie.Need-returns-8
+returns-8 c =
+    let t = c .before .before .args .task in sym (not-so (taskInRange t) (λ h. let r = task-range t h in omega arith))
+
+pub task-in-range-spec : {M : Type 1} → statement M
+task-in-range-spec =
+    tie.close
+    (tie.spec returns returns-2 returns-3 returns-4 returns-5 returns-6 returns-7 returns-8)

@@ -1,0 +1,2 @@
+-- What a reader must believe of one record of an image.
+pub mod Records
