@@ -1,7 +1,7 @@
 -- The laws of charges: how the counts grow, that r is at most n, and the bounds of a charge and a load.
 -- Assumes nothing.
 use Prim.Native.Nat.{ℕ, zero, suc, _+_, _*_, _-_, _/_, _≤_, _<_, max}
-use mathlib.Core.Path.{_≡_, refl, sym, ap, _∙_}
+use mathlib.Core.Path.{_≡_, refl, sym, ap, subst, _∙_}
 use mathlib.Core.Bool.{Bool, true, false, cond}
 use mathlib.Core.List.{List, [], _∷_}
 use native.Mathlib.Nat.{mul-le-mul, max-le, add-sub-cancel-left}
@@ -135,3 +135,15 @@ counts-made tasks board n q s f k m hn hq hs hf hk hm =
     rw (hm, hq, hs, add-sub-cancel-left (tasksIn 1 tasks) (tasksIn 2 tasks))
     in
     λ i. record { board = board; n = hn i; q = hq i; r = hq i + hs i; k = kk i; m = mm i }
+
+-- what counts that are those of a table give: the charge and the load among its tasks, and a difference n - r that is none below 0
+pub charge-of : (c : Counts) (tasks : List Task) (board : Board) (t : Task) → c ≡ countsOf tasks board → chargeBy c t ≡ chargeOf tasks board t
+unfolding chargeOf
+charge-of c tasks board t e = ap (λ (x : Counts). chargeBy x t) e
+
+pub load-of : (c : Counts) (tasks : List Task) (board : Board) (t : Task) → c ≡ countsOf tasks board → loadBy c t ≡ loadOf tasks board t
+unfolding loadOf
+load-of c tasks board t e = ap (λ (x : Counts). loadBy x t) e
+
+pub fit-of : (c : Counts) (tasks : List Task) (board : Board) → c ≡ countsOf tasks board → c .r ≤ c .n
+fit-of c tasks board e = subst (λ (x : Counts). x .r ≤ x .n) (sym e) (counts-fit tasks board)
