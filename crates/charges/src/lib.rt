@@ -4,11 +4,22 @@ ghost use mathlib.Core.Bool.{cond};
 ghost use Prim.Native.Nat.{_*_, _≤_, max};
 ghost use lib.Dec.{eqb, ltb};
 ghost use lib.ListN.{take};
-ghost use Rattle.charges.specs.Charges.{countsOf, choiceDP, choiceFP, sumDP1, sumDP2, sumFP, sumBy, chargeBy, loadBy};
+ghost use Rattle.charges.specs.Charges.{
+  countsOf,
+  choiceDP,
+  choiceFP,
+  sumDP1,
+  sumDP2,
+  sumFP,
+  sumBy,
+  chargeBy,
+  loadBy,
+};
 use table::Board;
 use table::Task;
 
-// The figures, with n tasks, q in DP1, r in DP1 and DP2 together, k queues that are not empty, m the larger of q and r - q.
+// The figures, with n tasks, q in DP1, r in DP1 and DP2 together, k queues that are not empty, and m, the larger of q
+// and r - q.
 pub struct Counts {
     pub board: Board,
     pub n: u8,

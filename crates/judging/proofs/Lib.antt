@@ -5,3 +5,4 @@ pub mod DemandLaws
 pub mod FirstLaws
 pub mod ColumnLaws
 pub mod VerdictLaws
+pub mod PassLaws

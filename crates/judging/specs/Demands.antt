@@ -60,3 +60,7 @@ timeUpTo demand (suc limit) = later (timeUpTo demand limit) (decLe (demand (suc 
 -- the answer of a decision
 unfoldable pub decided : {P : Type 0} → Dec P → Bool
 decided d = ite d true false
+
+-- 01, "The tests", 13: whether there is such a time for a DP2 task with this period
+abbrev pub hasTime : List ℕ → List ℕ → List ℕ → ℕ → Bool
+hasTime queues periods loads own = decided (timeUpTo (demandDP2 queues periods loads own) own)

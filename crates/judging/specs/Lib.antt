@@ -4,3 +4,4 @@ pub mod Demands
 pub mod Verdicts
 pub mod Ranges
 pub mod Search
+pub mod Passes

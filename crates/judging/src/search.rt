@@ -3,7 +3,7 @@ ghost use mathlib.Core.Path.{_≡_};
 ghost use Prim.Native.Nat.{ℕ, _≤_, _<_};
 ghost use lib.ListN.{length};
 ghost use Rattle.judging.specs.Periods.{at};
-ghost use Rattle.judging.specs.Demands.{counted, demandDP2, timeUpTo, decided};
+ghost use Rattle.judging.specs.Demands.{counted, demandDP2, hasTime};
 ghost use Rattle.judging.specs.Ranges.{InRange};
 ghost use Rattle.judging.specs.Search.{NextTime};
 
@@ -57,11 +57,11 @@ fn next(queues: &[u8], periods: &[u64], loads: &[u64], t: u64, limit: u64) -> u6
     best
 }
 
-// Whether there is a whole t from 1 to the limit with the demand at most t. It tries each multiple of each period, and the limit, in rising
-// order: from one to the next every count stands still, so that only the later end matters.
+// Whether there is a whole t from 1 to the limit with the demand at most t. It tries each multiple of each period, and
+// the limit, in rising order: from one to the next every count stands still, so that only the later end matters.
 pub fn has_time(queues: &[u8], periods: &[u64], loads: &[u64], limit: u64) -> bool
     requires { ⌜ InRange (now queues) (now periods) (now loads) × (limit ≤ 100000000) ⌝ }
-    ensures { λ r. ⌜ r ≡ decided (timeUpTo (demandDP2 (now (queues .entry)) (now (periods .entry)) (now (loads .entry)) limit) limit) ⌝ }
+    ensures { λ r. ⌜ r ≡ hasTime (now (queues .entry)) (now (periods .entry)) (now (loads .entry)) limit ⌝ }
 {
     let mut t: u64 = 0;
     while t < limit {

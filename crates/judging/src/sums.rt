@@ -22,7 +22,7 @@ fn gcd(a: u64, b: u64) -> u64
     x
 }
 
-// The shared period, taken in table order. It is compared with its limit before it grows, so that no product is too large.
+// The shared period, taken in table order. It is compared with its limit before it grows: no product is too large.
 pub fn shared_period(queues: &[u8], periods: &[u64], loads: &[u64]) -> Shared
     requires { ⌜ InRange (now queues) (now periods) (now loads) ⌝ }
     ensures { λ r. ⌜ r ≡ sharedOf (now (queues .entry)) (now (periods .entry)) ⌝ }
@@ -43,8 +43,8 @@ pub fn shared_period(queues: &[u8], periods: &[u64], loads: &[u64]) -> Shared
     Shared::Within(h)
 }
 
-// Whether the loads of the queues up to the last are more than their periods hold. Both sides go times the shared period h, so that no
-// fraction is rounded; a sum that is above h stays above, so that no sum grows too large.
+// Whether the loads of the queues up to the last are more than their periods hold. Both sides go times the shared
+// period h, so that no fraction is rounded; a sum that is above h stays above, so that no sum grows too large.
 pub fn over_full(queues: &[u8], periods: &[u64], loads: &[u64], last: u8, h: u64) -> bool
     requires { ⌜ InRange (now queues) (now periods) (now loads) × Common (now queues) (now periods) last h ⌝ }
     ensures { λ r. ⌜ r ≡ overFull (now (queues .entry)) (now (periods .entry)) (now (loads .entry)) last ⌝ }
