@@ -1,0 +1,92 @@
+-- The laws of the lists that judging works on: they are the tasks' queues, periods and loads, and in range.
+-- Assumes nothing.
+use Prim.Native.Nat.{ℕ, zero, suc, _+_, _≤_, _<_}
+use mathlib.Core.Path.{_≡_, refl, sym, ap, subst, _∙_}
+use mathlib.Core.Bool.{Bool, true}
+use mathlib.Core.List.{List, [], _∷_, _++_, map, map-append}
+use native.Mathlib.Nat.{le-of-suc-le-suc, not-suc-le-zero, le-trans}
+use native.Mathlib.Numerals.{add-one}
+use native.Mathlib.Omega.{arith}
+use lib.ListN.{length, getD, take, set, length-map}
+use lib.Seq.{take-suc, take-suc-set}
+use Rattle.table.specs.declared.Board.{Board}
+use Rattle.table.specs.declared.Task.{Task}
+use Rattle.table.specs.declared.Sem.{Sem}
+use Rattle.table.specs.Entries.{blankTask}
+use Rattle.table.specs.WellFormed.{WellFormed, taskInRange}
+use Rattle.table.proofs.SumLaws.{every-at}
+use Rattle.table.proofs.OrderLaws.{TaskRange, task-range}
+use Rattle.charges.specs.Charges.{loadOf}
+use Rattle.charges.proofs.ChargeLaws.{load-bound}
+use Rattle.judging.specs.Periods.{at}
+use Rattle.judging.specs.Ranges.{InRange}
+use Rattle.judging.specs.Verdicts.{queuesOf, periodsOf, loadsOf}
+
+module _ {A : Type 0} where
+  -- an entry of a column
+  pub at-map : (f : A → ℕ) (l : List A) (j : ℕ) (d : A) → j < length l → at (map f l) j ≡ f (getD l j d)
+  at-map f [] j d h = absurd (not-suc-le-zero h)
+  at-map f (x ∷ xs) zero d h = refl
+  at-map f (x ∷ xs) (suc j) d h = at-map f xs j d (le-of-suc-le-suc h)
+
+  -- one entry more
+  pub column-more : (f : A → ℕ) (l : List A) (r : List ℕ) (i : ℕ) (d : A) → i < length l → i < length r → take i r ≡ map f (take i l)
+      → take (i + 1) (set r i (f (getD l i d))) ≡ map f (take (i + 1) l)
+  column-more f l r i d hl hr e =
+      ap (λ (k : ℕ). take k (set r i (f (getD l i d)))) (add-one i) ∙ take-suc-set r i (f (getD l i d)) hr
+      ∙ ap (λ (x : List ℕ). x ++ (f (getD l i d) ∷ [])) e
+      ∙ sym
+      (ap (λ (k : ℕ). map f (take k l)) (add-one i) ∙ ap (map f) (take-suc l i d hl) ∙ map-append f (take i l) (getD l i d ∷ []))
+
+  pub map-same : (f g : A → ℕ) (l : List A) → ((x : A) → f x ≡ g x) → map f l ≡ map g l
+  map-same f g [] h = refl
+  map-same f g (x ∷ xs) h = rw (h x, map-same f g xs h)
+
+  -- a list has no use for its default inside
+  pub getD-any : (l : List A) (i : ℕ) (d e : A) → i < length l → getD l i d ≡ getD l i e
+  getD-any [] i d e h = absurd (not-suc-le-zero h)
+  getD-any (x ∷ xs) zero d e h = refl
+  getD-any (x ∷ xs) (suc i) d e h = getD-any xs i d e (le-of-suc-le-suc h)
+
+-- each column has as many entries as there are tasks
+pub queues-length : (tasks : List Task) → length (queuesOf tasks) ≡ length tasks
+unfolding queuesOf
+queues-length tasks = length-map tasks (λ (t : Task). t .queue)
+
+pub periods-length : (tasks : List Task) → length (periodsOf tasks) ≡ length tasks
+unfolding periodsOf
+periods-length tasks = length-map tasks (λ (t : Task). t .period)
+
+pub loads-length : (tasks : List Task) (board : Board) → length (loadsOf tasks board) ≡ length tasks
+unfolding loadsOf
+loads-length tasks board = length-map tasks (loadOf tasks board)
+
+-- the columns of a table are in range, if it has a task and is well formed or if it has none
+pub columns-range : (tasks : List Task) (sems : List Sem) (board : Board) (present : Bool) → length tasks ≤ 64
+    → (1 ≤ length tasks → WellFormed tasks sems board present) → InRange (queuesOf tasks) (periodsOf tasks) (loadsOf tasks board)
+unfolding queuesOf periodsOf loadsOf
+columns-range tasks sems board present fit wf =
+    let n = length-map tasks (λ (t : Task). t .queue) in
+    let p = length-map tasks (λ (t : Task). t .period) in
+    let l = length-map tasks (loadOf tasks board) in
+    let below : (j : ℕ) → j < length (map (λ (t : Task). t .queue) tasks) → j < length tasks = λ j h. omega (arith, n) in
+    let formed : (j : ℕ) → j < length tasks → WellFormed tasks sems board present = λ j h. wf (omega arith) in
+    let ranges : (j : ℕ) → j < length tasks → TaskRange (getD tasks j blankTask) =
+    λ j h. task-range (getD tasks j blankTask) (every-at taskInRange tasks (formed j h .taskRanges) j h blankTask)
+    in
+    record {
+      periodsLength = p ∙ sym n;
+      loadsLength = l ∙ sym n;
+      fit = omega (arith, n);
+      periodsLeast =
+          λ j h.
+          subst (λ (x : ℕ). 1000 ≤ x) (sym (at-map (λ (t : Task). t .period) tasks j blankTask (below j h))) (ranges j (below j h) .periodLeast);
+      periodsMost =
+          λ j h.
+          subst (λ (x : ℕ). x ≤ 100000000) (sym (at-map (λ (t : Task). t .period) tasks j blankTask (below j h))) (ranges j (below j h) .periodMost);
+      loadsMost =
+          λ j h.
+          subst (λ (x : ℕ). x ≤ 1000000000) (sym (at-map (loadOf tasks board) tasks j blankTask (below j h)))
+          (load-bound tasks board (getD tasks j blankTask) fit (formed j (below j h) .figures)
+          (le-trans (ranges j (below j h) .costMost) (ranges j (below j h) .periodMost)));
+    }

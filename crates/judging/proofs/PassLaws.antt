@@ -1,0 +1,145 @@
+-- The verdict is 0 exactly if all five tests pass, and the contract of judging allows one verdict only.
+-- Assumes nothing.
+use Prim.Native.Nat.{ℕ, zero, suc, _+_, _≤_, _<_}
+use mathlib.Core.Path.{_≡_, refl, sym, ap, _∙_}
+use mathlib.Core.Logic.{_↔_}
+use mathlib.Core.Bool.{Bool, true, false, cond, not, _&&_}
+use mathlib.Core.List.{List, [], _∷_}
+use native.Mathlib.Nat.{le-trans}
+use native.Mathlib.Omega.{arith}
+use lib.Dec.{eqb, ltb}
+use lib.ListN.{length}
+use borrow.Author.Tests.{ltb-false, le-ltb, eqb-true, eq-eqb, ne-eqb, eqb-false}
+use contract.Lifetimes.{Lfts}
+use borrow.Fn.Kinds.{Dens, resT, endedOf}
+use denote.Triple.Clauses.{AtExit}
+use Rattle.table.specs.declared.Board.{Board}
+use Rattle.table.specs.declared.Task.{Task}
+use Rattle.table.specs.declared.Sem.{Sem}
+use Rattle.table.specs.declared.Found.{Found}
+use Rattle.table.specs.declared.Found.the-variants.{At, Nothing}
+use Rattle.table.specs.Refusals.{firstOf}
+use Rattle.table.specs.WellFormed.{WellFormed}
+use Rattle.judging.specs.Periods.{at, sharedPeriod, SharedPeriod, tooLong, fractions, aboveOne, overFull}
+use Rattle.judging.specs.Demands.{demandDP2, demandFP, TimeUpTo, timeUpTo, decided}
+use Rattle.judging.specs.Ranges.{InRange}
+use Rattle.judging.specs.Verdicts.{
+  found,
+  firstLong,
+  lateDP2,
+  lateFP,
+  firstLateDP2,
+  firstLateFP,
+  numberOf,
+  outcomeAt,
+  outcomeOf,
+  queuesOf,
+  periodsOf,
+  loadsOf,
+  named,
+  verdictOf,
+}
+use Rattle.judging.specs.declared.Outcome.{Outcome}
+use Rattle.judging.specs.Passes.{AllFive, Passes}
+use Rattle.judging.proofs.PeriodLaws.{shared-least}
+use Rattle.judging.proofs.FirstLaws.{first-none, none-first, found-none}
+use Rattle.judging.proofs.DemandLaws.{decided-yes, yes-decided}
+use Rattle.judging.proofs.ColumnLaws.{queues-length, columns-range}
+use Rattle.judging.proofs.VerdictLaws.{shared-common, outcome-0}
+use Rattle.judging.proofs.judge.judge.Kinds as judge-kinds
+use Rattle.judging.proofs.judge.judge.Reads as judge-reads
+
+-- a list of refusals that gives 0 has none that holds
+past : (k : ℕ) (t : Bool) (rest : List (ℕ × Bool)) → 0 < k → firstOf ((k, t) ∷ rest) ≡ 0 → (t ≡ false) × (firstOf rest ≡ 0)
+unfolding firstOf
+past k true rest p h = absurd (omega arith)
+past k false rest p h = (refl, h)
+
+-- a late task, and one that is not
+gate-open : (a b : Bool) → (a && not b) ≡ false → a ≡ true → b ≡ true
+gate-open true true h e = refl
+gate-open true false h e = let z : _≡_ {A = ℕ} 0 1 = cc in absurd (omega arith)
+gate-open false b h e = let z : _≡_ {A = ℕ} 0 1 = cc in absurd (omega arith)
+
+gate-shut : (a b : Bool) → (a ≡ true → b ≡ true) → (a && not b) ≡ false
+gate-shut true b h = rw (h refl)
+gate-shut false b h = refl
+
+module _ (queues periods loads : List ℕ) (r : InRange queues periods loads) where
+  positive : (j : ℕ) → j < length queues → 0 < at periods j
+  positive j h = omega (arith, r .periodsLeast j h)
+
+  -- a table whose number is 0 passes
+  passes : numberOf queues periods loads ≡ 0 → (1 ≤ length queues) × AllFive queues periods loads
+  unfolding numberOf overFull aboveOne firstLateDP2 firstLateFP lateDP2 lateFP
+  passes e =
+      let p7 = past 7 (eqb (length queues) 0) _ (omega arith) e in
+      let p10 = past 10 (found (firstLong queues periods)) _ (omega arith) (p7 .1) in
+      let p11 = past 11 (overFull queues periods loads 1) _ (omega arith) (p10 .1) in
+      let p12 = past 12 (overFull queues periods loads 2) _ (omega arith) (p11 .1) in
+      let p13 = past 13 (found (firstLateDP2 queues periods loads)) _ (omega arith) (p12 .1) in
+      let p14 = past 14 (found (firstLateFP queues periods loads)) _ (omega arith) (p13 .1) in
+      let long = found-none (firstLong queues periods) (p10 .0) in
+      let some : 1 ≤ length queues = native.Mathlib.Nat.pos-of-ne-zero (eqb-false (length queues) 0 (p7 .0)) in (
+        some,
+        record {
+          shared = (
+            sharedPeriod queues periods (length queues),
+            shared-least queues periods (length queues) positive,
+            shared-common queues periods loads 2 (omega arith) r long .most,
+          );
+          dp1 = ltb-false _ _ (p11 .0);
+          dp = ltb-false _ _ (p12 .0);
+          timesDP2 =
+              λ i h q.
+              yes-decided (timeUpTo (demandDP2 queues periods loads (at periods i)) (at periods i))
+              (gate-open (eqb (at queues i) 2) _
+              (first-none (lateDP2 queues periods loads) (length queues) (found-none _ (p13 .0)) i h) (eq-eqb (at queues i) 2 q));
+          timesFP =
+              λ i h q.
+              yes-decided (timeUpTo (demandFP periods loads i) (at periods i))
+              (gate-open (eqb (at queues i) 3) _
+              (first-none (lateFP queues periods loads) (length queues) (found-none _ (p14 .0)) i h) (eq-eqb (at queues i) 3 q));
+        },
+      )
+
+  -- a table that passes is given 0
+  passed : 1 ≤ length queues → AllFive queues periods loads → outcomeAt 0 Nothing ≡ outcomeOf queues periods loads
+  unfolding overFull aboveOne firstLong tooLong firstLateDP2 firstLateFP lateDP2 lateFP
+  passed some f =
+      let h = f .shared .0 in
+      let s = f .shared .1 in
+      outcome-0 queues periods loads (ne-eqb (length queues) 0 (λ z. omega arith))
+      (none-first (tooLong queues periods) (length queues)
+      (λ i l.
+      le-ltb 1000000000000 (sharedPeriod queues periods (suc i))
+      (le-trans
+      (shared-least queues periods (suc i) (λ j k. positive j (omega arith)) .least h (s .positive) (λ j k q. s .common j (omega arith) q))
+      (f .shared .2))))
+      (le-ltb _ _ (f .dp1))
+      (le-ltb _ _ (f .dp))
+      (none-first (lateDP2 queues periods loads) (length queues)
+      (λ i l.
+      gate-shut (eqb (at queues i) 2) _
+      (λ q. decided-yes (timeUpTo (demandDP2 queues periods loads (at periods i)) (at periods i)) (f .timesDP2 i l (eqb-true (at queues i) 2 q)))))
+      (none-first (lateFP queues periods loads) (length queues)
+      (λ i l.
+      gate-shut (eqb (at queues i) 3) _
+      (λ q. decided-yes (timeUpTo (demandFP periods loads i) (at periods i)) (f .timesFP i l (eqb-true (at queues i) 3 q)))))
+
+-- demand 2: the verdict of a table that may be loaded is 0 exactly if all five tests pass
+pub passes-exactly : (tasks : List Task) (sems : List Sem) (board : Board) (present : Bool) → WellFormed tasks sems board present
+    → ((verdictOf tasks board) .number ≡ 0) ↔ Passes tasks board
+unfolding verdictOf named outcomeOf
+passes-exactly tasks sems board present wf =
+    let r = columns-range tasks sems board present (wf .tasksFit) (λ k. wf) in (
+      λ e. passes (queuesOf tasks) (periodsOf tasks) (loadsOf tasks board) r e .1,
+      λ f.
+          ap (λ (o : Outcome). o .number)
+          (sym (passed (queuesOf tasks) (periodsOf tasks) (loadsOf tasks board) r (omega (arith, wf .some, queues-length tasks)) f)),
+    )
+
+-- any two verdicts that the contract of judging allows of one state are equal
+pub judge-one : (κs : Lfts 0) (a : Dens κs judge-kinds.ps) (z z′ : resT judge-kinds.r κs .Denot) (e e′ : AtExit (endedOf 0 judge-kinds.ps judge-kinds.r) κs)
+    → judge-reads.Post κs a z e → judge-reads.Post κs a z′ e′ → z ≡ z′
+judge-one κs a z z′ e e′ p q = p ∙ sym q

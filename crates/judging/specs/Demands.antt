@@ -1,0 +1,66 @@
+-- Tests 13 and 14 (01, "The tests"): there is a whole time t from 1 to the task's period at which the demand is at most t.
+use Prim.Native.Nat.{ℕ, zero, suc, _+_, _*_, _-_, _/_, _≤_, _<_}
+use mathlib.Core.Bool.{Bool, true, false, cond}
+use mathlib.Core.List.{List}
+use mathlib.Core.Logic.{_⊎_, inl, inr, ite}
+use mathlib.Core.Path.{_≡_, subst}
+use native.Mathlib.Nat.{eq-or-lt-of-le}
+use native.Mathlib.Decide.{decLe}
+use native.Mathlib.Omega.{arith}
+use lib.Dec.{eqb, leb}
+use lib.ListN.{length}
+use Rattle.judging.specs.Periods.{at}
+
+-- the sum of f over the positions below n
+unfoldable pub sumTo : ℕ → (ℕ → ℕ) → ℕ
+sumTo zero f = 0
+sumTo (suc n) f = sumTo n f + f n
+
+-- ceil(t/period)
+unfoldable pub ceil : ℕ → ℕ → ℕ
+ceil t period = (t + (period - 1)) / period
+
+-- 01, "The tests", 13: the star count is ceil(t/period) where that count × period ≤ i's own period, else one less
+unfoldable pub star : ℕ → ℕ → ℕ → ℕ
+star t period own = cond (leb (ceil t period * period) own) (ceil t period) (ceil t period - 1)
+
+-- 01, "The tests", 13: DP1 loads go times ceil(t/period), DP2 loads times the star count, FP loads do not count
+unfoldable pub counted : ℕ → ℕ → ℕ → ℕ → ℕ
+counted queue t period own = cond (eqb queue 1) (ceil t period) (cond (eqb queue 2) (star t period own) 0)
+
+-- 01, "The tests", 13: what the tasks ask for up to t, for a DP2 task with its own period
+unfoldable pub demandDP2 : List ℕ → List ℕ → List ℕ → ℕ → ℕ → ℕ
+demandDP2 queues periods loads own t = sumTo (length queues) (λ j. at loads j * counted (at queues j) t (at periods j) own)
+
+-- 01, "The tests", 14: the loads of all tasks up to i in the table, each times ceil(t/period)
+unfoldable pub demandFP : List ℕ → List ℕ → ℕ → ℕ → ℕ
+demandFP periods loads i t = sumTo (suc i) (λ j. at loads j * ceil t (at periods j))
+
+-- 01, "The tests", 13 and 14: there is a whole time t from 1 to the limit with the demand at most t
+pub record TimeUpTo (demand : ℕ → ℕ) (limit : ℕ) : Type 0 where
+  pub t : ℕ
+  pub least : 1 ≤ t
+  pub most : t ≤ limit
+  pub enough : demand t ≤ t
+
+-- whether there is one can be decided; the type leaves no other answer than the right one
+unfoldable pub timeUpTo : (demand : ℕ → ℕ) (limit : ℕ) → Dec (TimeUpTo demand limit)
+timeUpTo demand zero = no (λ w. omega (arith, w .least, w .most))
+timeUpTo demand (suc limit) = later (timeUpTo demand limit) (decLe (demand (suc limit)) (suc limit))
+  where
+    later : Dec (TimeUpTo demand limit) → Dec (demand (suc limit) ≤ suc limit) → Dec (TimeUpTo demand (suc limit))
+    later (yes w) d = yes (record { t = w .t; least = w .least; most = omega (arith, w .most); enough = w .enough })
+    later (no n) (yes h) = yes (record { t = suc limit; least = omega arith; most = omega arith; enough = h })
+    later (no n) (no m) = no (λ w. last w (eq-or-lt-of-le (w .most)))
+      where
+        last : (w : TimeUpTo demand (suc limit)) → (w .t ≡ suc limit) ⊎ (w .t < suc limit) → ⊥
+        last w (inl h) = m (subst (λ (t : ℕ). demand t ≤ t) h (w .enough))
+        last w (inr h) = n (record { t = w .t; least = w .least; most = omega arith; enough = w .enough })
+
+-- the answer of a decision
+unfoldable pub decided : {P : Type 0} → Dec P → Bool
+decided d = ite d true false
+
+-- 01, "The tests", 13: whether there is such a time for a DP2 task with this period
+abbrev pub hasTime : List ℕ → List ℕ → List ℕ → ℕ → Bool
+hasTime queues periods loads own = decided (timeUpTo (demandDP2 queues periods loads own) own)

@@ -1,0 +1,11 @@
+-- What the search for a time steps by (requests may replace it; nothing but the search speaks of it).
+use Prim.Native.Nat.{ℕ, _+_, _*_, _/_, _≤_, _<_}
+use mathlib.Core.List.{List}
+use lib.ListN.{length}
+use Rattle.judging.specs.Periods.{at}
+
+-- a time after t, up to the limit, and before it no multiple of a period
+pub record NextTime (periods : List ℕ) (t limit next : ℕ) : Type 0 where
+  pub later : t < next
+  pub most : next ≤ limit
+  pub between : (j : ℕ) → j < length periods → next ≤ (t / at periods j + 1) * at periods j
