@@ -1,0 +1,7 @@
+-- The laws behind the contracts of standing and dispatch.
+pub mod CallLaws
+pub mod RankLaws
+pub mod ChainLaws
+pub mod ScanLaws
+pub mod SoundLaws
+pub mod StandingLaws
