@@ -30,6 +30,7 @@ pigeon (suc m) (suc d) f below once = let h : d ≤ m = pigeon m d g g-below g-o
   where
     g : ℕ → ℕ
     g a = cond (eqb (f a) m) (f d) (f a)
+
     small : (a : ℕ) (b : Bool) → eqb (f a) m ≡ b → a < d → cond b (f d) (f a) < m
     small a true e h =
         let x = eqb-true (f a) m e in
@@ -51,13 +52,16 @@ pigeon (suc m) (suc d) f below once = let h : d ≤ m = pigeon m d g g-below g-o
         go : (b : Bool) → ltb (f a) m ≡ b → (f a ≡ m → ⊥) → f a < suc m → f a < m
         go true l x y = ltb-true (f a) m l
         go false l x y = let k = ltb-false (f a) m l in absurd (x (omega arith))
+
     g-below : (a : ℕ) → a < d → g a < m
     g-below a h = small a (eqb (f a) m) refl h
+
     differ : (a b : ℕ) (p q : Bool) → eqb (f a) m ≡ p → eqb (f b) m ≡ q → a < d → b < d → cond p (f d) (f a) ≡ cond q (f d) (f b) → a ≡ b
     differ a b true true ep eq ha hb e = once a b (omega arith) (omega arith) (eqb-true (f a) m ep ∙ sym (eqb-true (f b) m eq))
     differ a b true false ep eq ha hb e = let q = once d b (omega arith) (omega arith) e in absurd (omega arith)
     differ a b false true ep eq ha hb e = let q = once a d (omega arith) (omega arith) e in absurd (omega arith)
     differ a b false false ep eq ha hb e = once a b (omega arith) (omega arith) e
+
     g-once : (a b : ℕ) → a < d → b < d → g a ≡ g b → a ≡ b
     g-once a b ha hb e = differ a b (eqb (f a) m) (eqb (f b) m) refl refl ha hb e
 

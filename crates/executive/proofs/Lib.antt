@@ -5,3 +5,4 @@ pub mod ChainLaws
 pub mod ScanLaws
 pub mod SoundLaws
 pub mod StandingLaws
+pub mod RunLaws

@@ -70,12 +70,13 @@ better-trans a b c e f =
     ⊎-elim
     (λ h'. inl (omega arith))
     (λ h'.
-    inr
-    (omega arith,
+    inr (
+      omega arith,
       ⊎-elim
-      (λ k. ⊎-elim (λ k'. inl (omega arith)) (λ k'. inl (omega arith)) (h' .1))
-      (λ k. ⊎-elim (λ k'. inl (omega arith)) (λ k'. inr (omega arith, omega arith)) (h' .1))
-      (h .1)))
+          (λ k. ⊎-elim (λ k'. inl (omega arith)) (λ k'. inl (omega arith)) (h' .1))
+          (λ k. ⊎-elim (λ k'. inl (omega arith)) (λ k'. inr (omega arith, omega arith)) (h' .1))
+          (h .1),
+    ))
     (is-better b c f))
     (is-better a b e))
 
@@ -85,6 +86,7 @@ better-total a b e f = fields (same (ltb (a .queue) (b .queue)) (ltb (b .queue) 
   where
     no : (x y : Rank) → better x y ≡ false → Better x y → ⊥
     no x y e h = let t = better-is x y h in let z : _≡_ {A = ℕ} 0 1 = cc in omega arith
+
     level : (p q : Bool) → ltb (a .position) (b .position) ≡ p → ltb (b .position) (a .position) ≡ q → a .queue ≡ b .queue
         → a .deadline ≡ b .deadline → a .position ≡ b .position
     level true q hp hq u v = absurd (no a b e (inr (u, inr (v, ltb-true _ _ hp))))
@@ -93,6 +95,7 @@ better-total a b e f = fields (same (ltb (a .queue) (b .queue)) (ltb (b .queue) 
         let x = ltb-false (a .position) (b .position) hp in
         let y = ltb-false (b .position) (a .position) hq in
         omega arith
+
     due : (p q : Bool) → ltb (a .deadline) (b .deadline) ≡ p → ltb (b .deadline) (a .deadline) ≡ q → a .queue ≡ b .queue
         → a .deadline ≡ b .deadline
     due true q hp hq u = absurd (no a b e (inr (u, inl (ltb-true _ _ hp))))
@@ -101,6 +104,7 @@ better-total a b e f = fields (same (ltb (a .queue) (b .queue)) (ltb (b .queue) 
         let x = ltb-false (a .deadline) (b .deadline) hp in
         let y = ltb-false (b .deadline) (a .deadline) hq in
         omega arith
+
     same : (p q : Bool) → ltb (a .queue) (b .queue) ≡ p → ltb (b .queue) (a .queue) ≡ q → a .queue ≡ b .queue
     same true q hp hq = absurd (no a b e (inl (ltb-true _ _ hp)))
     same false true hp hq = absurd (no b a f (inl (ltb-true _ _ hq)))
@@ -108,6 +112,7 @@ better-total a b e f = fields (same (ltb (a .queue) (b .queue)) (ltb (b .queue) 
         let x = ltb-false (a .queue) (b .queue) hp in
         let y = ltb-false (b .queue) (a .queue) hq in
         omega arith
+
     fields : a .queue ≡ b .queue → a ≡ b
     fields u =
         let v = due (ltb (a .deadline) (b .deadline)) (ltb (b .deadline) (a .deadline)) refl refl u in
@@ -165,11 +170,13 @@ module _ (test : ℕ → Bool) (rank : ℕ → Rank) where
     where
       below : b < n
       below = says .below
+
       past : (j : ℕ) (c : Bool) → better (rank j) (rank n) ≡ c → better (rank n) (rank b) ≡ true → better (rank j) (rank b) ≡ false
           → better (rank j) (rank n) ≡ false
       past j false e u v = e
       past j true e u v =
           let w = better-trans (rank j) (rank n) (rank b) e u in let z : _≡_ {A = ℕ} 0 1 = cc in absurd (omega arith)
+
       go : (c : Bool) → better (rank n) (rank b) ≡ c → Says (suc n) (cond c (At n) (At b))
       go true e =
           record {
@@ -233,3 +240,12 @@ module _ (test : ℕ → Bool) (rank : ℕ → Rank) where
       ∙ ap At
       (once (s .0) b (i .below) (is .below) (i .passes) (is .passes)
       (better-total (rank (s .0)) (rank b) (is .best (s .0) (i .below) (i .passes)) (i .best b (is .below) (is .passes))))
+
+-- tests that agree below n have the same best
+pub best-same : (test other : ℕ → Bool) (rank : ℕ → Rank) (n : ℕ) → ((j : ℕ) → j < n → test j ≡ other j)
+    → bestAmong test rank n ≡ bestAmong other rank n
+unfolding bestAmong
+best-same test other rank zero h = refl
+best-same test other rank (suc n) h =
+    ap (λ (b : Bool). cond b (preferred rank n) (λ best. best) (bestAmong test rank n)) (h n (omega arith))
+    ∙ ap (λ (f : Found). cond (other n) (preferred rank n) (λ best. best) f) (best-same test other rank n (λ j k. h j (omega arith)))

@@ -26,14 +26,47 @@ use Rattle.executive.specs.Sound.{Sound}
 use Rattle.executive.specs.Standing.{Rank, foundAnd, foundOr, ownOf, shownDeadline, better, reaches, preferred, bestAmong, standingOf}
 use Rattle.executive.specs.Reaches.{Reaches}
 use Rattle.executive.specs.Scan.{
-    walked, followed, takes, takenAt, holderLeads, ledBy, Linked, ledTo, onward, meets, metBy, semCode, metCode, noBest, asBest, folded,
-    winnerOf, bestFor, metFound
+  walked,
+  followed,
+  takes,
+  takenAt,
+  holderLeads,
+  ledBy,
+  Linked,
+  ledTo,
+  onward,
+  meets,
+  metBy,
+  semCode,
+  metCode,
+  noBest,
+  asBest,
+  folded,
+  winnerOf,
+  bestFor,
+  metFound,
 }
 use Rattle.executive.proofs.RankLaws.{
-    own-once, IsBest, best-is, best-none, best-some, best-nothing, best-only, better-irrefl
+  own-once,
+  IsBest,
+  best-is,
+  best-none,
+  best-some,
+  best-nothing,
+  best-only,
+  better-irrefl,
 }
 use Rattle.executive.proofs.ChainLaws.{
-    Chained, Long, waits-held, waits-none, on-held, chain, long-bound, reached-below, reaches-true, true-reaches
+  Chained,
+  Long,
+  waits-held,
+  waits-none,
+  on-held,
+  chain,
+  long-bound,
+  reached-below,
+  reaches-true,
+  true-reaches,
 }
 use Rattle.executive.proofs.CallLaws.{task-at, sem-at}
 
@@ -164,7 +197,7 @@ module _ (tasks : List Task) (sems : List Sem) (goal : Goal) where
       go : (t : Bool) → takes goal ((taskAt tasks i) .status) i ≡ t → (d : ℕ) × Long tasks sems i d × (d ≤ length sems)
           → cond (takes goal ((taskAt tasks i) .status) i) (64 + i) (followed link (waitsFor ((taskAt tasks i) .status)))
           ≡ metCode
-              (cond (takes goal ((taskAt tasks i) .status) i) (At i) (onward (meets tasks sems goal (length sems)) (waitsOn tasks sems i)))
+          (cond (takes goal ((taskAt tasks i) .status) i) (At i) (onward (meets tasks sems goal (length sems)) (waitsOn tasks sems i)))
       go true e l = rw e
       go false e l = rw e (rest (l .1) (l .2))
         where
@@ -194,11 +227,11 @@ module _ (tasks : List Task) (sems : List Sem) (goal : Goal) where
   -- one task more: what the fold makes of the best so far is the best with that task
   fold-onto : (i m : ℕ) (w : Found) → metBy tasks sems goal i ≡ At m → (taskAt tasks i) .queue < 256 → ((b : ℕ) → w ≡ At b → b < i)
       → cond
-          (ltb ((taskAt tasks i) .queue) ((bestFor tasks sems goal w) .queue)
-          || (eqb ((taskAt tasks i) .queue) ((bestFor tasks sems goal w) .queue)
-          && ltb (shownDeadline (taskAt tasks i)) ((bestFor tasks sems goal w) .deadline)))
-          (asBest (taskAt tasks i) i (64 + m))
-          (bestFor tasks sems goal w)
+      (ltb ((taskAt tasks i) .queue) ((bestFor tasks sems goal w) .queue)
+      || (eqb ((taskAt tasks i) .queue) ((bestFor tasks sems goal w) .queue)
+      && ltb (shownDeadline (taskAt tasks i)) ((bestFor tasks sems goal w) .deadline)))
+      (asBest (taskAt tasks i) i (64 + m))
+      (bestFor tasks sems goal w)
       ≡ bestFor tasks sems goal (preferred (ownOf tasks) i w)
   unfolding bestFor noBest preferred metCode asBest
   fold-onto i m Nothing e q below = rw (lt-ltb ((taskAt tasks i) .queue) 256 q, e)
@@ -216,8 +249,10 @@ module _ (tasks : List Task) (sems : List Sem) (goal : Goal) where
     where
       test : ℕ → Bool
       test j = foundAnd (λ _. true) (metBy tasks sems goal j)
+
       w : Found
       w = bestAmong test (ownOf tasks) i
+
       go : (f : Found) → metBy tasks sems goal i ≡ f
           → folded (bestFor tasks sems goal w) (taskAt tasks i) i (metCode f)
           ≡ bestFor tasks sems goal (cond (foundAnd (λ _. true) f) (preferred (ownOf tasks) i) (λ best. best) w)

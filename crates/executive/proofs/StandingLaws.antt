@@ -19,18 +19,62 @@ use Rattle.executive.specs.declared.standing.Goal.{Goal}
 use Rattle.executive.specs.declared.standing.Goal.the-variants.{Is, WaitsFor}
 use Rattle.executive.specs.Waits.{taskAt, semAt, waitsFor, heldBy, waitsOn}
 use Rattle.executive.specs.Standing.{
-    Rank, foundAnd, foundOr, ownOf, better, reaches, preferred, bestAmong, standingOf, isReady, readyAt, waiterAt, runningOf, heirOf
+  Rank,
+  foundAnd,
+  foundOr,
+  ownOf,
+  better,
+  reaches,
+  preferred,
+  bestAmong,
+  standingOf,
+  isReady,
+  readyAt,
+  waiterAt,
+  runningOf,
+  heirOf,
 }
 use Rattle.executive.specs.Reaches.{Reaches, IsStanding}
 use Rattle.executive.specs.Scan.{
-    walked, takes, takenAt, ledBy, Linked, onward, meets, metBy, metCode, winnerOf, bestFor, noBest, asBest, metFound
+  walked,
+  takes,
+  takenAt,
+  ledBy,
+  Linked,
+  onward,
+  meets,
+  metBy,
+  metCode,
+  winnerOf,
+  bestFor,
+  noBest,
+  asBest,
+  metFound,
 }
 use Rattle.executive.specs.Calls.{closesRing}
 use Rattle.executive.proofs.RankLaws.{
-    better-total, own-once, IsBest, best-is, best-none, best-some, best-nothing, best-only
+  better-total,
+  own-once,
+  IsBest,
+  best-is,
+  best-none,
+  best-some,
+  best-nothing,
+  best-only,
 }
 use Rattle.executive.proofs.ChainLaws.{
-    Chained, Long, waits-held, waits-none, on-held, long, long-once, chain, long-bound, reached-below, reaches-true, true-reaches
+  Chained,
+  Long,
+  waits-held,
+  waits-none,
+  on-held,
+  long,
+  long-once,
+  chain,
+  long-bound,
+  reached-below,
+  reaches-true,
+  true-reaches,
 }
 use Rattle.executive.proofs.ScanLaws.{meets-is, Apart, is-met, walked-step, walked-stays, walked-meets}
 
@@ -114,10 +158,11 @@ module _ (tasks : List Task) (sems : List Sem) (c : Chained tasks sems) where
   -- the standing of a task is the own standing of the best that reaches it
   pub standing-at : (i : ℕ) → i < length tasks
       → (w : ℕ) × (standingOf tasks sems i ≡ ownOf tasks w) × IsBest (reaches tasks sems i) (ownOf tasks) (length tasks) w
+      × (bestAmong (reaches tasks sems i) (ownOf tasks) (length tasks) ≡ At w)
   unfolding standingOf foundOr
   standing-at i h =
       let s = best-some (reaches tasks sems i) (ownOf tasks) (length tasks) i h (reaches-true tasks sems c i i h Reaches.here) in
-      (s .0, rw (s .1), best-is (reaches tasks sems i) (ownOf tasks) (length tasks) (s .0) (s .1))
+      (s .0, rw (s .1), best-is (reaches tasks sems i) (ownOf tasks) (length tasks) (s .0) (s .1), s .1)
 
   module _ (goal : Goal) (apart : Apart tasks sems goal) where
     test : ℕ → Bool

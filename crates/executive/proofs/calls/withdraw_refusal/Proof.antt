@@ -18,14 +18,14 @@ waits-requires c κs = search needs
 returns : tie.Need-returns
 unfolding firstOf
 returns c = let n : isNone (waitsFor (c .before .before .args .status)) ≡ true =
-        sym (Bool·not-not (isNone (waitsFor (c .before .before .args .status)))) ∙ ap not (sym (c .before .waits .ensures)) ∙ c .if1 .taken in
+    sym (Bool·not-not (isNone (waitsFor (c .before .before .args .status)))) ∙ ap not (sym (c .before .waits .ensures)) ∙ c .if1 .taken in
     rw n
 
 -- src/calls.rt:111:1
 returns-2 : tie.Need-returns-2
 unfolding firstOf
 returns-2 c = let n : isNone (waitsFor (c .before .before .args .status)) ≡ false =
-        sym (Bool·not-not (isNone (waitsFor (c .before .before .args .status)))) ∙ ap not (sym (c .before .waits .ensures)) ∙ c .if1 .left in
+    sym (Bool·not-not (isNone (waitsFor (c .before .before .args .status)))) ∙ ap not (sym (c .before .waits .ensures)) ∙ c .if1 .left in
     rw n
 
 pub withdraw-refusal-spec : {M : Type 1} → statement M

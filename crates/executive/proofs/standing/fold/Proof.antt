@@ -35,11 +35,12 @@ unfolding folded asBest
 returns-3 c = let d = c .before .before .before .before .before .before in
     let a = d .before .before .before .args in
     let early : shownDeadline (a .t) < a .best .deadline = rw (← d .deadline-shown .ensures) (c .if4 .taken) in
-    rw
-    (le-ltb _ _ (d .before .before .if1 .left),
+    rw (
+      le-ltb _ _ (d .before .before .if1 .left),
       le-ltb _ _ (c .before .before .before .before .if2 .left),
       eq-eqb _ _ (c .before .before .if3 .taken),
-      lt-ltb _ _ early)
+      lt-ltb _ _ early,
+    )
     (λ i. record { queue = a .t .queue; deadline = d .deadline-shown .ensures i; position = a .position; met = a .met })
 
 -- src/standing.rt:151:1
@@ -48,11 +49,12 @@ unfolding folded
 returns-4 c = let d = c .before .before .before .before .before .before in
     let a = d .before .before .before .args in
     let late : a .best .deadline ≤ shownDeadline (a .t) = rw (← d .deadline-shown .ensures) (c .if4 .left) in
-    rw
-    (le-ltb _ _ (d .before .before .if1 .left),
+    rw (
+      le-ltb _ _ (d .before .before .if1 .left),
       le-ltb _ _ (c .before .before .before .before .if2 .left),
       eq-eqb _ _ (c .before .before .if3 .taken),
-      le-ltb _ _ late)
+      le-ltb _ _ late,
+    )
 
 -- src/standing.rt:151:1
 returns-5 : tie.Need-returns-5

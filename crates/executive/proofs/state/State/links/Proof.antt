@@ -89,11 +89,11 @@ loop-again c = let b = c .before .before .before .before in
     ⊎-elim
     (λ w.
     let r = table-more (l .link) (c .match .link) (l .k) 32 f (l .inv .1) (omega arith) (w .2) (led-free s (b .args .goal) (l .k) taken (w .1 .given .1))
-            (l .inv .2) in
+    (l .inv .2) in
     (omega arith, r .0, r .1))
     (λ w.
     let r = table-more (l .link) (c .match .link) (l .k) (w .4 .result) f (l .inv .1) (omega arith) (w .5)
-            (w .4 .ensures ∙ led-held s (b .pre) (b .args .goal) (l .k) taken (w .1 .given .0 .0) (w .1 .given .1)) (l .inv .2) in
+    (w .4 .ensures ∙ led-held s (b .pre) (b .args .goal) (l .k) taken (w .1 .given .0 .0) (w .1 .given .1)) (l .inv .2) in
     (omega arith, r .0, r .1))
     (c .match .came)
 

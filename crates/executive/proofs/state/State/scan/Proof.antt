@@ -87,8 +87,8 @@ loop-again c = let b = c .before .before .before .before .before .before in
     let links = c .before .before .before .before .before .links in
     let at : taskAt (tasksOf s) i ≡ getD (s .tasks) i blankTask = task-at s i below in
     let met : c .before .led-to .result ≡ metCode (metBy (tasksOf s) (semsOf s) g i) =
-            c .before .led-to .ensures ∙ ap (λ (t : Task). ledTo (links .result) g (t .status) i) (sym at)
-            ∙ led-met (tasksOf s) (semsOf s) g (chained s sound) (links .result) (links .ensures) (omega arith) i (omega arith) in
+    c .before .led-to .ensures ∙ ap (λ (t : Task). ledTo (links .result) g (t .status) i) (sym at)
+    ∙ led-met (tasksOf s) (semsOf s) g (chained s sound) (links .result) (links .ensures) (omega arith) i (omega arith) in
     let few = queue-most s sound i below in (
       omega arith,
       c .fold .ensures
