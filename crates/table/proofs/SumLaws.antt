@@ -130,6 +130,19 @@ module _ {A : Type 0} where
   unfolding any
   any-end test l i h = ap (any test) (drop-of-length-le l h)
 
+  -- one entry that passes is enough
+  pub any-some : (test : A → Bool) (l : List A) (i : ℕ) (d : A) → i < length l → test (getD l i d) ≡ true → any test l ≡ true
+  unfolding any
+  any-some test [] i d h e = absurd (not-suc-le-zero h)
+  any-some test (x ∷ xs) zero d h e = rw e
+  any-some test (x ∷ xs) (suc i) d h e = rw (any-some test xs i d (le-of-suc-le-suc h) e) (mathlib.Core.Bool.or-true (test x))
+
+  -- where no entry passes, none of the list does
+  pub none-any : (test : A → Bool) (l : List A) (d : A) → ((i : ℕ) → i < length l → test (getD l i d) ≡ false) → any test l ≡ false
+  unfolding any
+  none-any test [] d h = refl
+  none-any test (x ∷ xs) d h = rw (h 0 (omega arith)) (none-any test xs d (λ i k. h (suc i) (omega arith)))
+
 -- a test of what a function makes of the entries
 pub any-map : {A B : Type 0} (f : A → B) (test : B → Bool) (l : List A) → any test (map f l) ≡ any (λ x. test (f x)) l
 unfolding any

@@ -1,0 +1,377 @@
+// The calls: each takes the state by value and hands back the next state beside a number. A refusal hands back the very state.
+ghost use mathlib.Core.Path.{_≡_};
+ghost use mathlib.Core.Bool.{not};
+ghost use mathlib.Core.List.{[], _∷_};
+ghost use Prim.Native.Nat.{_+_, _≤_};
+ghost use Rattle.table.specs.Refusals.{firstOf};
+ghost use Rattle.table.specs.Entries.{spanOf, withStatus, withDeadline};
+ghost use Rattle.executive.specs.States.{semsOf};
+ghost use Rattle.executive.specs.Waits.{waitsFor, heldBy};
+ghost use Rattle.executive.specs.Sound.{Sized, Sound};
+ghost use Rattle.executive.specs.Standing.{isIdle, isEvent};
+ghost use Rattle.executive.specs.Calls.{
+  untimely,
+  isNone,
+  holdsIt,
+  stillHolds,
+  releaseOf,
+  signalOf,
+  withdrawOf,
+  acquireOf,
+  giveOf,
+  completeOf,
+  blockOf,
+};
+use crate::standing;
+use crate::standing::Goal;
+use crate::state::State;
+use table::Found;
+use table::Holder;
+use table::Sem;
+use table::Status;
+use table::Task;
+use table::limits;
+use table::numbers;
+
+pub struct Moved {
+    pub state: State,
+    pub answer: u8,
+}
+
+fn is_idle(status: Status) -> bool
+    ensures { λ r. ⌜ r ≡ isIdle status ⌝ }
+{
+    match status {
+        Status::Idle => true,
+        Status::Ready => false,
+        Status::Event => false,
+        Status::Waits(_) => false,
+    }
+}
+
+fn is_event(status: Status) -> bool
+    ensures { λ r. ⌜ r ≡ isEvent status ⌝ }
+{
+    match status {
+        Status::Idle => false,
+        Status::Ready => false,
+        Status::Event => true,
+        Status::Waits(_) => false,
+    }
+}
+
+// Whether a task that does this waits for a semaphore.
+fn waits(status: Status) -> bool
+    ensures { λ r. ⌜ r ≡ not (isNone (waitsFor status)) ⌝ }
+{
+    match status {
+        Status::Idle => false,
+        Status::Ready => false,
+        Status::Event => false,
+        Status::Waits(_) => true,
+    }
+}
+
+// 23, 22, or 0 where a release is accepted.
+fn release_refusal(status: Status, last: u64, time: u64) -> u8
+    ensures { λ r. ⌜ r ≡ firstOf ((23, not (isIdle status)) ∷ (22, untimely last time) ∷ []) ⌝ }
+{
+    if !is_idle(status) {
+        return numbers::NOT_IDLE;
+    }
+    if time < last {
+        return numbers::TIME_REFUSED;
+    }
+    if time > limits::TIME_MOST {
+        return numbers::TIME_REFUSED;
+    }
+    numbers::DONE
+}
+
+// The task released: its deadline is set and it is ready.
+fn released(t: Task, time: u64) -> Task
+    requires { ⌜ time ≤ 1000000000000000 ⌝ }
+    ensures { λ r. ⌜ r ≡ withStatus (withDeadline t (time + spanOf t)) Status.Ready ⌝ }
+{
+    let due = t.with_deadline(time + t.period as u64);
+    due.with_status(Status::Ready)
+}
+
+// 24, or 0 where a signal is accepted.
+fn signal_refusal(status: Status) -> u8
+    ensures { λ r. ⌜ r ≡ firstOf ((24, not (isEvent status)) ∷ []) ⌝ }
+{
+    if !is_event(status) {
+        return numbers::NO_EVENT_WAIT;
+    }
+    numbers::DONE
+}
+
+// 25, or 0 where a withdrawal is accepted.
+fn withdraw_refusal(status: Status) -> u8
+    ensures { λ r. ⌜ r ≡ firstOf ((25, isNone (waitsFor status)) ∷ []) ⌝ }
+{
+    if !waits(status) {
+        return numbers::NO_SEM_WAIT;
+    }
+    numbers::DONE
+}
+
+// Whether the task at a position holds the semaphore.
+fn holds_it(i: usize, entry: Sem) -> bool
+    ensures { λ r. ⌜ r ≡ holdsIt i entry ⌝ }
+{
+    let holder = entry.holder;
+    let Holder::By(at) = holder else {
+        return false;
+    };
+    at as usize == i
+}
+
+impl State {
+    // Takes a time, sets the deadline and makes an idle task ready.
+    pub fn release(mut self, number: u16, time: u64) -> Moved
+        requires { ⌜ Sized self ⌝ }
+        ensures { λ r. ⌜ r ≡ releaseOf self number time ⌝ }
+    {
+        let n = self.n;
+        let last = self.last;
+        let mut i: usize = 0;
+        while i < n {
+            let t = self.tasks[i];
+            if t.number == number {
+                let status = t.status;
+                let refusal = release_refusal(status, last, time);
+                if refusal != numbers::DONE {
+                    return Moved {
+                        state: self,
+                        answer: refusal,
+                    };
+                }
+                self.tasks[i] = released(t, time);
+                self.last = time;
+                return Moved {
+                    state: self,
+                    answer: numbers::DONE,
+                };
+            }
+            i += 1;
+        }
+        Moved {
+            state: self,
+            answer: numbers::UNKNOWN_TASK,
+        }
+    }
+
+    // Makes an event waiter ready.
+    pub fn signal(mut self, number: u16) -> Moved
+        requires { ⌜ Sized self ⌝ }
+        ensures { λ r. ⌜ r ≡ signalOf self number ⌝ }
+    {
+        let n = self.n;
+        let mut i: usize = 0;
+        while i < n {
+            let t = self.tasks[i];
+            if t.number == number {
+                let status = t.status;
+                let refusal = signal_refusal(status);
+                if refusal != numbers::DONE {
+                    return Moved {
+                        state: self,
+                        answer: refusal,
+                    };
+                }
+                self.tasks[i] = t.with_status(Status::Ready);
+                return Moved {
+                    state: self,
+                    answer: numbers::DONE,
+                };
+            }
+            i += 1;
+        }
+        Moved {
+            state: self,
+            answer: numbers::UNKNOWN_TASK,
+        }
+    }
+
+    // Makes a semaphore waiter ready without it.
+    pub fn withdraw(mut self, number: u16) -> Moved
+        requires { ⌜ Sized self ⌝ }
+        ensures { λ r. ⌜ r ≡ withdrawOf self number ⌝ }
+    {
+        let n = self.n;
+        let mut i: usize = 0;
+        while i < n {
+            let t = self.tasks[i];
+            if t.number == number {
+                let status = t.status;
+                let refusal = withdraw_refusal(status);
+                if refusal != numbers::DONE {
+                    return Moved {
+                        state: self,
+                        answer: refusal,
+                    };
+                }
+                self.tasks[i] = t.with_status(Status::Ready);
+                return Moved {
+                    state: self,
+                    answer: numbers::DONE,
+                };
+            }
+            i += 1;
+        }
+        Moved {
+            state: self,
+            answer: numbers::UNKNOWN_TASK,
+        }
+    }
+
+    // Whether the task at a position holds a semaphore.
+    fn holds(self, i: usize) -> bool
+        requires { ⌜ Sized self ⌝ }
+        ensures { λ r. ⌜ r ≡ stillHolds (semsOf self) i ⌝ }
+    {
+        let m = self.m;
+        let mut k: usize = 0;
+        while k < m {
+            if holds_it(i, self.sems[k]) {
+                return true;
+            }
+            k += 1;
+        }
+        false
+    }
+
+    // The running task becomes idle.
+    pub fn complete(mut self) -> Moved
+        requires { ⌜ Sound self ⌝ }
+        ensures { λ r. ⌜ r ≡ completeOf self ⌝ }
+    {
+        let runs = standing::met_at(self.scan(Goal::Ready));
+        let Found::At(i) = runs else {
+            return Moved {
+                state: self,
+                answer: numbers::NOBODY_RUNS,
+            };
+        };
+        if self.holds(i) {
+            return Moved {
+                state: self,
+                answer: numbers::STILL_HOLDS,
+            };
+        }
+        let t = self.tasks[i];
+        self.tasks[i] = t.with_status(Status::Idle);
+        Moved {
+            state: self,
+            answer: numbers::DONE,
+        }
+    }
+
+    // The running task waits for an event, also while it holds a semaphore.
+    pub fn block(mut self) -> Moved
+        requires { ⌜ Sound self ⌝ }
+        ensures { λ r. ⌜ r ≡ blockOf self ⌝ }
+    {
+        let runs = standing::met_at(self.scan(Goal::Ready));
+        let Found::At(i) = runs else {
+            return Moved {
+                state: self,
+                answer: numbers::NOBODY_RUNS,
+            };
+        };
+        let t = self.tasks[i];
+        self.tasks[i] = t.with_status(Status::Event);
+        Moved {
+            state: self,
+            answer: numbers::DONE,
+        }
+    }
+
+    // The running task takes a free semaphore, else it waits.
+    pub fn acquire(mut self, number: u16) -> Moved
+        requires { ⌜ Sound self ⌝ }
+        ensures { λ r. ⌜ r ≡ acquireOf self number ⌝ }
+    {
+        let runs = standing::met_at(self.scan(Goal::Ready));
+        let Found::At(i) = runs else {
+            return Moved {
+                state: self,
+                answer: numbers::NOBODY_RUNS,
+            };
+        };
+        let found = self.find_sem(number);
+        let Found::At(k) = found else {
+            return Moved {
+                state: self,
+                answer: numbers::UNKNOWN_SEM,
+            };
+        };
+        let link = self.links(Goal::Is(i as u8));
+        if standing::walk(link, k as u8) >= standing::MET {
+            return Moved {
+                state: self,
+                answer: numbers::RING,
+            };
+        }
+        let entry = self.sems[k];
+        let holder = entry.holder;
+        if let Holder::Free = holder {
+            self.sems[k] = entry.with_holder(Holder::By(i as u8));
+            return Moved {
+                state: self,
+                answer: numbers::DONE,
+            };
+        }
+        let t = self.tasks[i];
+        self.tasks[i] = t.with_status(Status::Waits(k as u8));
+        Moved {
+            state: self,
+            answer: numbers::WAITS,
+        }
+    }
+
+    // The running task hands a semaphore to the waiter of best standing, which becomes ready, or frees it.
+    pub fn give(mut self, number: u16) -> Moved
+        requires { ⌜ Sound self ⌝ }
+        ensures { λ r. ⌜ r ≡ giveOf self number ⌝ }
+    {
+        let runs = standing::met_at(self.scan(Goal::Ready));
+        let Found::At(i) = runs else {
+            return Moved {
+                state: self,
+                answer: numbers::NOBODY_RUNS,
+            };
+        };
+        let found = self.find_sem(number);
+        let Found::At(k) = found else {
+            return Moved {
+                state: self,
+                answer: numbers::UNKNOWN_SEM,
+            };
+        };
+        let entry = self.sems[k];
+        if !holds_it(i, entry) {
+            return Moved {
+                state: self,
+                answer: numbers::NOT_HELD,
+            };
+        }
+        let waiter = standing::met_at(self.scan(Goal::WaitsFor(k as u8)));
+        let Found::At(heir) = waiter else {
+            self.sems[k] = entry.with_holder(Holder::Free);
+            return Moved {
+                state: self,
+                answer: numbers::DONE,
+            };
+        };
+        let t = self.tasks[heir];
+        self.tasks[heir] = t.with_status(Status::Ready);
+        self.sems[k] = entry.with_holder(Holder::By(heir as u8));
+        Moved {
+            state: self,
+            answer: numbers::DONE,
+        }
+    }
+}
