@@ -1,13 +1,13 @@
 -- Look-up by number in a sound state: 0 is never a task nor a semaphore, and a number that is there is found where it stands.
 -- Assumes nothing.
 use Prim.Native.Nat.{ℕ, zero, suc, _≤_, _<_}
-use mathlib.Core.Path.{_≡_, refl, ap, _∙_}
+use mathlib.Core.Path.{_≡_, refl, sym, ap, _∙_}
 use mathlib.Core.Bool.{Bool, true, false}
 use mathlib.Core.List.{List}
 use native.Mathlib.Omega.{arith}
-use lib.Dec.{eqb}
+use lib.Dec.{eqb, ltb}
 use lib.ListN.{length, getD, take, length-take}
-use borrow.Author.Tests.{eqb-true, eq-eqb}
+use borrow.Author.Tests.{eqb-true, eq-eqb, ltb-true, ltb-false}
 use Rattle.table.specs.declared.Task.{Task}
 use Rattle.table.specs.declared.Sem.{Sem}
 use Rattle.table.specs.declared.Found.{Found}
@@ -18,7 +18,7 @@ use Rattle.table.specs.Places.{firstPlace, taskPlace, semPlace}
 use Rattle.table.specs.WellFormed.{WellFormed, within, taskInRange, semInRange}
 use Rattle.table.proofs.SumLaws.{every-at}
 use Rattle.table.proofs.PlaceLaws.{found, found-only}
-use Rattle.table.proofs.OrderLaws.{task-range, within-true, once}
+use Rattle.table.proofs.OrderLaws.{task-range, within-true, once, rises}
 use Rattle.executive.specs.declared.state.State.{State}
 use Rattle.executive.specs.States.{tasksOf, semsOf, emptyState}
 use Rattle.executive.specs.Sound.{Sized, Sound}
@@ -84,3 +84,28 @@ module _ (s : State) (sound : Sound s) where
       (λ j k t.
       once (tasksOf s) blankTask ((sound .table (omega arith)) .taskNumbers) j i k (omega arith)
       (eqb-true ((getD (tasksOf s) j blankTask) .number) number t))
+
+  -- the empty state has no semaphore
+  no-sems : s .n ≡ 0 → s .m ≡ 0
+  unfolding emptyState
+  no-sems h = ap (λ (r : State). r .m) (sound .none h)
+
+  -- semaphores at two places have two numbers
+  sems-apart : (a b : ℕ) → a < b → b < s .m → 1 ≤ s .n → (getD (semsOf s) a blankSem) .number ≡ (getD (semsOf s) b blankSem) .number → ⊥
+  sems-apart a b less inside some same =
+      let m = sems-count s (sound .sized) in
+      let up = rises (semsOf s) blankSem ((sound .table some) .semOrder) a b less (omega arith) in
+      omega arith
+
+  -- two semaphores whose numbers are equal are one
+  pub sem-once : (k l : ℕ) → k < s .m → l < s .m → (getD (semsOf s) k blankSem) .number ≡ (getD (semsOf s) l blankSem) .number → k ≡ l
+  sem-once k l hk hl e = with-tasks (s .n) refl
+    where
+      pick : (a b : Bool) → 1 ≤ s .n → ltb k l ≡ a → ltb l k ≡ b → k ≡ l
+      pick true b some ea eb = absurd (sems-apart k l (ltb-true k l ea) hl some e)
+      pick false true some ea eb = absurd (sems-apart l k (ltb-true l k eb) hk some (sym e))
+      pick false false some ea eb = let x = ltb-false k l ea in let y = ltb-false l k eb in omega arith
+
+      with-tasks : (n : ℕ) → s .n ≡ n → k ≡ l
+      with-tasks zero h = let m = no-sems h in absurd (omega arith)
+      with-tasks (suc n) h = pick (ltb k l) (ltb l k) (omega arith) refl refl

@@ -8,13 +8,13 @@ use native.Mathlib.Nat.{le-of-suc-le-suc, not-suc-le-zero}
 use native.Mathlib.Omega.{arith}
 use lib.Dec.{leb, ltb, eqb}
 use lib.ListN.{length, getD}
-use borrow.Author.Tests.{leb-true, le-leb, eq-eqb, not-true}
+use borrow.Author.Tests.{leb-true, le-leb, ltb-true, eq-eqb, not-true}
 use Rattle.table.specs.declared.Board.{Board}
 use Rattle.table.specs.declared.Task.{Task}
 use Rattle.table.specs.declared.Sem.{Sem}
 use Rattle.table.specs.Entries.{builtIn}
 use Rattle.table.specs.Sums.{every, any}
-use Rattle.table.specs.WellFormed.{within, taskInRange, semInRange, boardInRange, used, usedOnce}
+use Rattle.table.specs.WellFormed.{within, taskInRange, semInRange, boardInRange, semBefore, ordered, used, usedOnce}
 use Rattle.table.proofs.SumLaws.{both, both-left, both-right, any-none}
 
 -- a value that lies within its bounds, and back
@@ -167,3 +167,26 @@ board-in-range b r =
 pub not-so : (b : Bool) → (b ≡ true → ⊥) → b ≡ false
 not-so true h = absurd (h refl)
 not-so false h = refl
+
+-- the first two semaphores stand in order, and so do those behind
+rising : (x y : Sem) (rest : List Sem) → ordered semBefore (x ∷ y ∷ rest) ≡ true → (x .number < y .number) × (ordered semBefore (y ∷ rest) ≡ true)
+unfolding ordered semBefore
+rising x y rest h =
+    let first = ltb (x .number) (y .number) in
+    (ltb-true (x .number) (y .number) (both-left first (ordered semBefore (y ∷ rest)) h), both-right first (ordered semBefore (y ∷ rest)) h)
+
+-- a semaphore further on has the larger number
+pub rises : (sems : List Sem) (d : Sem) → ordered semBefore sems ≡ true → (i j : ℕ) → i < j → j < length sems
+    → (getD sems i d) .number < (getD sems j d) .number
+rises [] d h i j less inside = absurd (not-suc-le-zero inside)
+rises (x ∷ []) d h i zero less inside = absurd (not-suc-le-zero less)
+rises (x ∷ []) d h i (suc j) less inside = absurd (not-suc-le-zero (le-of-suc-le-suc inside))
+rises (x ∷ y ∷ rest) d h i zero less inside = absurd (not-suc-le-zero less)
+rises (x ∷ y ∷ rest) d h zero (suc zero) less inside = rising x y rest h .0
+rises (x ∷ y ∷ rest) d h zero (suc (suc j)) less inside =
+    let r = rising x y rest h in
+    let on = rises (y ∷ rest) d (r .1) zero (suc j) (omega arith) (le-of-suc-le-suc inside) in
+    let now = r .0 in
+    omega arith
+rises (x ∷ y ∷ rest) d h (suc i) (suc j) less inside =
+    rises (y ∷ rest) d (rising x y rest h .1) i j (le-of-suc-le-suc less) (le-of-suc-le-suc inside)
