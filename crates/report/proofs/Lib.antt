@@ -1,0 +1,2 @@
+-- The laws of the printed lines.
+pub mod LineLaws

@@ -1,0 +1,2 @@
+-- What a reader must believe of the checking program's answer.
+pub mod Report
