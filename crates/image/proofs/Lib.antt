@@ -2,3 +2,4 @@
 pub mod LoadLaws
 pub mod WriteLaws
 pub mod GrowLaws
+pub mod ReplayLaws
