@@ -30,7 +30,7 @@ use Rattle.image.specs.declared.load.Loaded.{Loaded}
 use Rattle.image.specs.Loading.{Table, freshTable, taken, startFront, frontAfter, refusalOf, usedAfter, refusedAs, orderBroken, numberTwice, tooMany, stateOf, refusedLoad, acceptedLoad, finishedLoad, loadFrom, recordsIn}
 use Rattle.image.specs.Writing.{flat, encoded}
 use Rattle.image.proofs.LoadLaws.{load-go, load-stop, Passed, passed, passes, length-more}
-use Rattle.image.proofs.WriteLaws.{flat-more, length-flat}
+use Rattle.image.proofs.WriteLaws.{nothing, flat-more, length-flat}
 use Rattle.image.proofs.GrowLaws.{lastOf, ordered-at, every-at-seam, used-before, Growing, growing-start, grow, growing-well, task-passed, board-passed}
 
 -- the records of entries, encoded one behind the other
@@ -65,8 +65,8 @@ reach t f place g r d e s p clear rest =
       growing = grow t f g s p;
       clear = clear;
       goes =
-        load-go t f place r rest (ap (refusalOf f (λ k. used k (t .tasks))) e ∙ passes f (λ k. used k (t .tasks)) d p)
-            ∙ ap (λ (x : Decoded). loadFrom (taken t x) (frontAfter f x) (suc place) rest) e;
+          load-go t f place r rest (ap (refusalOf f (λ k. used k (t .tasks))) e ∙ passes f (λ k. used k (t .tasks)) d p)
+          ∙ ap (λ (x : Decoded). loadFrom (taken t x) (frontAfter f x) (suc place) rest) e;
     }
 
 -- the entry at the seam of two lists is left as it is, where all are
@@ -99,7 +99,7 @@ add-sems t (x ∷ xs) =
 
 -- the entries of a well-formed table, as they are after loading, are replayed in their order
 module _ (goal : Table) (well : WellFormed (goal .tasks) (goal .sems) (goal .board) (goal .present))
-  (tasksLoaded : map loadedTask (goal .tasks) ≡ goal .tasks) (semsLoaded : map loadedSem (goal .sems) ≡ goal .sems) where
+    (tasksLoaded : map loadedTask (goal .tasks) ≡ goal .tasks) (semsLoaded : map loadedSem (goal .sems) ≡ goal .sems) where
   task-next : (t : Table) (f : Front) → Growing t f → f .erased ≡ false → length (t .sems) ≡ 0 → (x : Task) (xs : List Task) → goal .tasks ≡ t .tasks ++ x ∷ xs
       → Passed f (λ k. used k (t .tasks)) (TaskRecord x)
   unfolding usedAfter refusedAs orderBroken numberTwice tooMany
@@ -285,3 +285,213 @@ replayed goal well tasksLoaded semsLoaded e count n =
     board-split true b k l =
         ap (λ (m : List ℕ). recordsIn (1 + k) (m ++ l)) (sym (append-nil (encodeBoard b))) ∙ one-record b k l
     board-split false b k l = ap (λ (j : ℕ). recordsIn j l) (zero-add k)
+
+-- a load that is accepted refused no record
+accepted-record : (t : Table) (f : Front) (place : ℕ) (r : List ℕ) (rest : List (List ℕ)) → (loadFrom t f place (r ∷ rest)) .number ≡ 0
+    → refusalOf f (λ k. used k (t .tasks)) (decoded r) ≡ 0
+unfolding refusedLoad
+accepted-record t f place r rest h = go (eqb (refusalOf f (λ k. used k (t .tasks)) (decoded r)) 0) refl
+  where
+    go : (b : Bool) → eqb (refusalOf f (λ k. used k (t .tasks)) (decoded r)) 0 ≡ b → refusalOf f (λ k. used k (t .tasks)) (decoded r) ≡ 0
+    go true e = eqb-true (refusalOf f (λ k. used k (t .tasks)) (decoded r)) 0 e
+    go false e =
+        sym (ap (λ (l : Loaded). l .number) (load-stop t f place r rest (eqb-false (refusalOf f (λ k. used k (t .tasks)) (decoded r)) 0 e))) ∙ h
+
+-- an accepted end has a task
+accepted-end : (s : State) (place : ℕ) → (finishedLoad s place) .number ≡ 0 → 1 ≤ s .n
+unfolding refusedLoad
+accepted-end s place h = go (eqb (s .n) 0) refl
+  where
+    go : (b : Bool) → eqb (s .n) 0 ≡ b → 1 ≤ s .n
+    go true e =
+        let seven : _≡_ {A = ℕ} 7 0 = sym (ap (λ (l : Loaded). l .number) (finished-none s place (eqb-true (s .n) 0 e))) ∙ h in
+        absurd (omega arith)
+    go false e = let some : s .n ≡ 0 → ⊥ = eqb-false (s .n) 0 e in omega arith
+
+-- the first record of some bytes, and those behind it
+front-bytes : (k : ℕ) (l : List ℕ) → length l ≡ 32 * suc k → Bytes l → (length (take 32 l) ≡ 32) × (Bytes (take 32 l)) × (length (drop 32 l) ≡ 32 * k) × (Bytes (drop 32 l))
+front-bytes k l n bytes =
+    let long : length (take 32 l) ≡ 32 = length-take-le 32 l (omega arith) in
+    let short : length (drop 32 l) ≡ 32 * k = length-drop 32 l ∙ omega arith in (
+      long,
+      (λ i h. rw (getD-take 32 l i 0 (omega arith)) (bytes i (omega arith))),
+      short,
+      (λ i h. rw (getD-drop 32 l i 0) (bytes (32 + i) (omega arith))),
+    )
+
+-- behind an erased record there are erased records only
+pub record Rest (t : Table) (k : ℕ) (l : List ℕ) (answer : Loaded) : Type 0 where
+  pub some : 1 ≤ length (t .tasks)
+  pub bytes : l ≡ erasedBytes (32 * k)
+  pub same : answer ≡ acceptedLoad (stateOf t)
+
+-- a used record after an erased one is not accepted
+not-used : {A : Type 0} (f : Front) (d : Decoded) (u : ℕ → Bool) → f .erased ≡ true → usedAfter (f .erased) d ≡ f .erased → Passed f u d → A
+not-used f d u gone so p = let z : _≡_ {A = ℕ} 0 1 = let h : false ≡ true = sym (p .notAfter) ∙ (so ∙ gone) in cc in absurd (omega arith)
+
+-- one erased record before others
+rest-more : (k : ℕ) (l : List ℕ) (t : Table) (f : Front) (place : ℕ) → length l ≡ 32 * suc k → allAre 255 (take 32 l) ≡ true
+    → ((loadFrom t (frontAfter f Erased) (suc place) (recordsIn k (drop 32 l))) .number ≡ 0
+    → Rest t k (drop 32 l) (loadFrom t (frontAfter f Erased) (suc place) (recordsIn k (drop 32 l))))
+    → (loadFrom t f place (take 32 l ∷ recordsIn k (drop 32 l))) .number ≡ 0
+    → Rest t (suc k) l (loadFrom t f place (take 32 l ∷ recordsIn k (drop 32 l)))
+rest-more k l t f place n all others h =
+    let first : take 32 l ≡ erasedBytes 32 = all-replicate 255 (take 32 l) all ∙ ap erasedBytes (length-take-le 32 l (omega arith)) in
+    let goes = ap (λ (r : List ℕ). loadFrom t f place (r ∷ recordsIn k (drop 32 l))) first ∙ erased-step t f place (recordsIn k (drop 32 l)) in
+    let rest = others (sym (ap (λ (a : Loaded). a .number) goes) ∙ h) in
+    record {
+      some = rest .some;
+      bytes = sym (take-append-drop 32 l) ∙ (ap (λ (m : List ℕ). m ++ drop 32 l) first ∙ (ap (λ (m : List ℕ). erasedBytes 32 ++ m) (rest .bytes) ∙ sym (erased-bytes k)));
+      same = goes ∙ rest .same;
+    }
+
+rest-case : (k : ℕ) (l : List ℕ) (t : Table) (f : Front) (place : ℕ) → f .erased ≡ true → length l ≡ 32 * suc k
+    → (d : Decoded) → Said (take 32 l) d → Passed f (λ k. used k (t .tasks)) d
+    → ((loadFrom t (frontAfter f Erased) (suc place) (recordsIn k (drop 32 l))) .number ≡ 0
+    → Rest t k (drop 32 l) (loadFrom t (frontAfter f Erased) (suc place) (recordsIn k (drop 32 l))))
+    → (loadFrom t f place (take 32 l ∷ recordsIn k (drop 32 l))) .number ≡ 0
+    → Rest t (suc k) l (loadFrom t f place (take 32 l ∷ recordsIn k (drop 32 l)))
+unfolding usedAfter
+rest-case k l t f place gone n d (erased all) p others h = rest-more k l t f place n all others h
+rest-case k l t f place gone n (TaskRecord x) (task a b c) p others h = not-used f (TaskRecord x) (λ k. used k (t .tasks)) gone refl p
+rest-case k l t f place gone n (BoardRecord x) (board a b) p others h = not-used f (BoardRecord x) (λ k. used k (t .tasks)) gone refl p
+rest-case k l t f place gone n (SemRecord x) (sem a b c) p others h = not-used f (SemRecord x) (λ k. used k (t .tasks)) gone refl p
+rest-case k l t f place gone n d unknown p others h = not-used f (Refused 2) (λ k. used k (t .tasks)) gone refl p
+rest-case k l t f place gone n d bad p others h = not-used f (Refused 4) (λ k. used k (t .tasks)) gone refl p
+
+rest-of : (k : ℕ) (l : List ℕ) (t : Table) (f : Front) (place : ℕ) → f .erased ≡ true → length l ≡ 32 * k → Bytes l
+    → (loadFrom t f place (recordsIn k l)) .number ≡ 0 → Rest t k l (loadFrom t f place (recordsIn k l))
+unfolding recordsIn loadFrom stateOf frontAfter
+rest-of zero l t f place gone n bytes h =
+    let some = accepted-end (stateOf t) place h in record { some = some; bytes = nothing l n; same = finished-some (stateOf t) place some }
+rest-of (suc k) l t f place gone n bytes h =
+    let parts = front-bytes k l n bytes in
+    let r = take 32 l in
+    rest-case k l t f place gone n (decoded r) (said r (parts .0) (parts .1))
+    (passed f (λ k. used k (t .tasks)) (decoded r) (accepted-record t f place r (recordsIn k (drop 32 l)) h))
+    (rest-of k (drop 32 l) t (frontAfter f Erased) (suc place) refl (parts .2) (parts .3)) h
+
+-- one entry more is one record more
+encoded-task : (t : Table) (x : Task) → t .sems ≡ [] → encoded (taken t (TaskRecord x)) ≡ encoded t ++ encodeTask x
+unfolding encoded taken flat
+encoded-task t x none =
+    let b = cond (t .present) (encodeBoard (t .board)) [] in
+    let ts = flat encodeTask (t .tasks) in
+    let e = encodeTask x in
+    ap (λ (l : List Sem). b ++ (flat encodeTask (t .tasks ++ x ∷ []) ++ flat encodeSem l)) none
+    ∙ (ap (λ (m : List ℕ). b ++ m) (append-nil (flat encodeTask (t .tasks ++ x ∷ [])) ∙ flat-more encodeTask (t .tasks) x)
+    ∙ (sym (append-assoc b ts e)
+    ∙ (ap (λ (m : List ℕ). (b ++ m) ++ e) (sym (append-nil ts)) ∙ ap (λ (l : List Sem). (b ++ (ts ++ flat encodeSem l)) ++ e) (sym none))))
+
+encoded-sem : (t : Table) (x : Sem) → encoded (taken t (SemRecord x)) ≡ encoded t ++ encodeSem x
+unfolding encoded taken
+encoded-sem t x =
+    let b = cond (t .present) (encodeBoard (t .board)) [] in
+    let ts = flat encodeTask (t .tasks) in
+    let ss = flat encodeSem (t .sems) in
+    let e = encodeSem x in
+    ap (λ (m : List ℕ). b ++ (ts ++ m)) (flat-more encodeSem (t .sems) x)
+    ∙ (ap (λ (m : List ℕ). b ++ m) (sym (append-assoc ts ss e)) ∙ sym (append-assoc b (ts ++ ss) e))
+
+encoded-board : (t : Table) (b : Board) → t .present ≡ false → t .tasks ≡ [] → t .sems ≡ [] → encoded (taken t (BoardRecord b)) ≡ encoded t ++ encodeBoard b
+unfolding encoded taken flat
+encoded-board t b absent noTask noSem =
+    ap (λ (l : List Task). encodeBoard b ++ (flat encodeTask l ++ flat encodeSem (t .sems))) noTask
+    ∙ (ap (λ (l : List Sem). encodeBoard b ++ flat encodeSem l) noSem
+    ∙ (append-nil (encodeBoard b)
+    ∙ (ap (λ (l : List Sem). flat encodeSem l ++ encodeBoard b) (sym noSem)
+    ∙ (ap (λ (l : List Task). (flat encodeTask l ++ flat encodeSem (t .sems)) ++ encodeBoard b) (sym noTask)
+    ∙ ap (λ (flag : Bool). (cond flag (encodeBoard (t .board)) [] ++ (flat encodeTask (t .tasks) ++ flat encodeSem (t .sems))) ++ encodeBoard b) (sym absent)))))
+
+-- an accepted load: the table that was read, and what its bytes were
+pub record Ended (t : Table) (l : List ℕ) (answer : Loaded) : Type 0 where
+  pub table : Table
+  pub front : Front
+  pub growing : Growing table front
+  pub some : 1 ≤ length (table .tasks)
+  pub same : answer ≡ acceptedLoad (stateOf table)
+  pub gone : ℕ
+  pub bytes : encoded t ++ l ≡ encoded table ++ erasedBytes (32 * gone)
+
+-- a used record before others
+ended-more : (t : Table) (f : Front) (place k : ℕ) (l : List ℕ) (d : Decoded) → decoded (take 32 l) ≡ d → encoded (taken t d) ≡ encoded t ++ take 32 l
+    → (loadFrom t f place (take 32 l ∷ recordsIn k (drop 32 l))) .number ≡ 0
+    → ((loadFrom (taken t d) (frontAfter f d) (suc place) (recordsIn k (drop 32 l))) .number ≡ 0
+    → Ended (taken t d) (drop 32 l) (loadFrom (taken t d) (frontAfter f d) (suc place) (recordsIn k (drop 32 l))))
+    → Ended t l (loadFrom t f place (take 32 l ∷ recordsIn k (drop 32 l)))
+ended-more t f place k l d e grown h others =
+    let goes : loadFrom t f place (take 32 l ∷ recordsIn k (drop 32 l)) ≡ loadFrom (taken t d) (frontAfter f d) (suc place) (recordsIn k (drop 32 l)) =
+    load-go t f place (take 32 l) (recordsIn k (drop 32 l)) (accepted-record t f place (take 32 l) (recordsIn k (drop 32 l)) h)
+    ∙ ap (λ (x : Decoded). loadFrom (taken t x) (frontAfter f x) (suc place) (recordsIn k (drop 32 l))) e in
+    let end = others (sym (ap (λ (a : Loaded). a .number) goes) ∙ h) in
+    record {
+      table = end .table;
+      front = end .front;
+      growing = end .growing;
+      some = end .some;
+      same = goes ∙ end .same;
+      gone = end .gone;
+      bytes =
+          ap (λ (m : List ℕ). encoded t ++ m) (sym (take-append-drop 32 l))
+          ∙ (sym (append-assoc (encoded t) (take 32 l) (drop 32 l)) ∙ (ap (λ (m : List ℕ). m ++ drop 32 l) (sym grown) ∙ end .bytes));
+    }
+
+-- a record that is refused was not accepted
+not-refused : {A : Type 0} (b : Bool) → b ≡ true → b ≡ false → A
+not-refused b h k = let z : _≡_ {A = ℕ} 0 1 = cc in absurd (omega arith)
+
+ended-case : (k : ℕ) (l : List ℕ) (t : Table) (f : Front) (place : ℕ) → Growing t f → f .erased ≡ false → length l ≡ 32 * suc k → Bytes l
+    → (d : Decoded) → decoded (take 32 l) ≡ d → Said (take 32 l) d → Passed f (λ k. used k (t .tasks)) d
+    → (loadFrom t f place (take 32 l ∷ recordsIn k (drop 32 l))) .number ≡ 0
+    → ((t : Table) (f : Front) (place : ℕ) → Growing t f → f .erased ≡ false → (loadFrom t f place (recordsIn k (drop 32 l))) .number ≡ 0
+    → Ended t (drop 32 l) (loadFrom t f place (recordsIn k (drop 32 l))))
+    → Ended t l (loadFrom t f place (take 32 l ∷ recordsIn k (drop 32 l)))
+unfolding frontAfter refusedAs
+ended-case k l t f place g clear n bytes d e (erased all) p h others =
+    let parts = front-bytes k l n bytes in
+    let rest =
+    rest-more k l t f place n all (rest-of k (drop 32 l) t (frontAfter f Erased) (suc place) refl (parts .2) (parts .3)) h in
+    record {
+      table = t;
+      front = f;
+      growing = g;
+      some = rest .some;
+      same = rest .same;
+      gone = suc k;
+      bytes = ap (λ (m : List ℕ). encoded t ++ m) (rest .bytes);
+    }
+ended-case k l t f place g clear n bytes (TaskRecord x) e (task same range loaded) p h others =
+    let none = nothing (t .sems) ((task-passed t f x g p) .0) in
+    ended-more t f place k l (TaskRecord x) e (encoded-task t x none ∙ ap (λ (m : List ℕ). encoded t ++ m) same) h
+    (others (taken t (TaskRecord x)) (frontAfter f (TaskRecord x)) (suc place) (grow t f {r = take 32 l} {d = TaskRecord x} g (task same range loaded) p) clear)
+ended-case k l t f place g clear n bytes (BoardRecord x) e (board same range) p h others =
+    let first = board-passed t f x g p in
+    ended-more t f place k l (BoardRecord x) e
+    (encoded-board t x (first .0) (nothing (t .tasks) (first .1)) (nothing (t .sems) (first .2)) ∙ ap (λ (m : List ℕ). encoded t ++ m) same) h
+    (others (taken t (BoardRecord x)) (frontAfter f (BoardRecord x)) (suc place) (grow t f {r = take 32 l} {d = BoardRecord x} g (board same range) p) clear)
+ended-case k l t f place g clear n bytes (SemRecord x) e (sem same range loaded) p h others =
+    ended-more t f place k l (SemRecord x) e (encoded-sem t x ∙ ap (λ (m : List ℕ). encoded t ++ m) same) h
+    (others (taken t (SemRecord x)) (frontAfter f (SemRecord x)) (suc place) (grow t f {r = take 32 l} {d = SemRecord x} g (sem same range loaded) p) clear)
+ended-case k l t f place g clear n bytes d e unknown p h others = not-refused (refusedAs 2 (Refused 2)) refl (p .known)
+ended-case k l t f place g clear n bytes d e bad p h others = not-refused (refusedAs 4 (Refused 4)) refl (p .inRange)
+
+pub ended-of : (k : ℕ) (l : List ℕ) (t : Table) (f : Front) (place : ℕ) → Growing t f → f .erased ≡ false → length l ≡ 32 * k → Bytes l
+    → (loadFrom t f place (recordsIn k l)) .number ≡ 0 → Ended t l (loadFrom t f place (recordsIn k l))
+unfolding recordsIn loadFrom stateOf
+ended-of zero l t f place g clear n bytes h =
+    let some = accepted-end (stateOf t) place h in
+    record {
+      table = t;
+      front = f;
+      growing = g;
+      some = some;
+      same = finished-some (stateOf t) place some;
+      gone = 0;
+      bytes = ap (λ (m : List ℕ). encoded t ++ m) (nothing l n);
+    }
+ended-of (suc k) l t f place g clear n bytes h =
+    let parts = front-bytes k l n bytes in
+    let r = take 32 l in
+    ended-case k l t f place g clear n bytes (decoded r) refl (said r (parts .0) (parts .1))
+    (passed f (λ k. used k (t .tasks)) (decoded r) (accepted-record t f place r (recordsIn k (drop 32 l)) h)) h
+    (λ t f place g clear h. ended-of k (drop 32 l) t f place g clear (parts .2) (parts .3) h)

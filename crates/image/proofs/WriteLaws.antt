@@ -23,6 +23,11 @@ use Rattle.records.proofs.RecordLaws.{length-task, length-board, length-sem}
 use Rattle.image.specs.Loading.{Table, badLength}
 use Rattle.image.specs.Writing.{flat, encoded, tableOf, badBuffer, writeNumber, written}
 
+-- a list of length 0 has no element
+pub nothing : {A : Type 0} (l : List A) → length l ≡ 0 → l ≡ []
+nothing [] h = refl
+nothing (x ∷ xs) h = absurd (omega arith)
+
 -- a part that is put behind what is done already
 pub part-put : (done r l : List ℕ) (at e : ℕ) → length done ≡ at → at ≤ e → putMid at (e - at) (done ++ drop at l) r ≡ (done ++ r) ++ drop e l
 part-put done r l at e n h =
