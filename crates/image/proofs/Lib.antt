@@ -3,3 +3,5 @@ pub mod LoadLaws
 pub mod WriteLaws
 pub mod GrowLaws
 pub mod ReplayLaws
+pub mod LoadedLaws
+pub mod RoundTrips
