@@ -2,3 +2,6 @@
 pub mod LoadLaws
 pub mod WriteLaws
 pub mod GrowLaws
+pub mod ReplayLaws
+pub mod LoadedLaws
+pub mod RoundTrips

@@ -23,6 +23,11 @@ use Rattle.records.proofs.RecordLaws.{length-task, length-board, length-sem}
 use Rattle.image.specs.Loading.{Table, badLength}
 use Rattle.image.specs.Writing.{flat, encoded, tableOf, badBuffer, writeNumber, written}
 
+-- a list of length 0 has no element
+pub nothing : {A : Type 0} (l : List A) → length l ≡ 0 → l ≡ []
+nothing [] h = refl
+nothing (x ∷ xs) h = absurd (omega arith)
+
 -- a part that is put behind what is done already
 pub part-put : (done r l : List ℕ) (at e : ℕ) → length done ≡ at → at ≤ e → putMid at (e - at) (done ++ drop at l) r ≡ (done ++ r) ++ drop e l
 part-put done r l at e n h =
@@ -70,20 +75,26 @@ pub length-board-part : (present : Bool) (b : Board) → length (cond present (e
 length-board-part true b = length-board b
 length-board-part false b = refl
 
--- how long the records of a state are
-pub length-encoded : (s : State) → Sized s → length (encoded (tableOf s)) ≡ cond (s .present) 32 0 + s .n * 32 + s .m * 32
-unfolding encoded tableOf tasksOf semsOf
-length-encoded s z =
-    let b = cond (s .present) (encodeBoard (s .board)) [] in
-    let ts = flat encodeTask (take (s .n) (s .tasks)) in
-    let ss = flat encodeSem (take (s .m) (s .sems)) in
+-- how long the records of a table are, and those of a state
+pub length-table : (t : Table) → length (encoded t) ≡ cond (t .present) 32 0 + 32 * length (t .tasks) + 32 * length (t .sems)
+unfolding encoded
+length-table t =
+    let b = cond (t .present) (encodeBoard (t .board)) [] in
+    let ts = flat encodeTask (t .tasks) in
+    let ss = flat encodeSem (t .sems) in
     let one = length-append b (ts ++ ss) in
     let two = length-append ts ss in
-    let three = length-board-part (s .present) (s .board) in
-    let four = length-flat encodeTask length-task (take (s .n) (s .tasks)) in
-    let five = length-flat encodeSem length-sem (take (s .m) (s .sems)) in
-    let six : length (take (s .n) (s .tasks)) ≡ s .n = length-take-le (s .n) (s .tasks) (omega (arith, z .tasksLength, z .tasksFit)) in
-    let seven : length (take (s .m) (s .sems)) ≡ s .m = length-take-le (s .m) (s .sems) (omega (arith, z .semsLength, z .semsFit)) in
+    let three = length-board-part (t .present) (t .board) in
+    let four = length-flat encodeTask length-task (t .tasks) in
+    let five = length-flat encodeSem length-sem (t .sems) in
+    omega arith
+
+pub length-encoded : (s : State) → Sized s → length (encoded (tableOf s)) ≡ cond (s .present) 32 0 + s .n * 32 + s .m * 32
+unfolding tableOf tasksOf semsOf
+length-encoded s z =
+    let all = length-table (tableOf s) in
+    let n : length (take (s .n) (s .tasks)) ≡ s .n = length-take-le (s .n) (s .tasks) (omega (arith, z .tasksLength, z .tasksFit)) in
+    let m : length (take (s .m) (s .sems)) ≡ s .m = length-take-le (s .m) (s .sems) (omega (arith, z .semsLength, z .semsFit)) in
     omega arith
 
 -- a write that is refused, with its number

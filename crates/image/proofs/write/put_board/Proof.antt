@@ -3,19 +3,14 @@
 use Prim.Native.Nat.{ℕ}
 use mathlib.Core.Path.{_≡_, refl, sym, ap, _∙_}
 use mathlib.Core.Bool.{Bool, cond}
-use mathlib.Core.List.{List, [], _∷_}
-use native.Mathlib.Omega.{arith}
+use mathlib.Core.List.{List, []}
 use denote.Ref.{now}
 use lib.ListN.{length}
 use Rattle.records.specs.Records.{encodeBoard}
+use Rattle.image.proofs.WriteLaws.{nothing}
 use borrow.Author.Needs.{needs}
 use Rattle.image.proofs.write.put_board.Statement.{statement}
 use Rattle.image.proofs.write.put_board.Tie as tie
-
--- a list of length 0 has no element
-nothing : (l : List ℕ) → length l ≡ 0 → l ≡ []
-nothing [] h = refl
-nothing (x ∷ xs) h = absurd (omega arith)
 
 put-board-requires : tie.Need-put-board-requires
 put-board-requires c κs =
