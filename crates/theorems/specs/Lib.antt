@@ -1,0 +1,2 @@
+-- What is shown of the whole executive: the statements.
+pub mod Cases

@@ -1,0 +1,1 @@
+// No code: what no single function says, stated in specs/ and shown in proofs/.
