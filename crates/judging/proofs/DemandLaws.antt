@@ -27,7 +27,7 @@ use lib.ListN.{length, take, replicate, getD-replicate}
 use lib.Seq.{getD-take, length-take-le}
 use borrow.Author.Tests.{leb-true, leb-false, le-leb, lt-leb, eq-eqb, ne-eqb}
 use Rattle.judging.specs.Periods.{at}
-use Rattle.judging.specs.Ranges.{InRange}
+use Rattle.judging.specs.Ranges.{PeriodsInRange, InRange}
 use Rattle.judging.specs.Demands.{sumTo, ceil, star, counted, demandDP2, demandFP, TimeUpTo, timeUpTo, decided}
 
 -- sums by position
@@ -258,3 +258,11 @@ module _ (queues periods loads : List ℕ) (i : ℕ) (r : InRange queues periods
   prefix-decides limit =
       decided-demand (demandDP2 (take (i + 1) (replicate 64 1)) (take (i + 1) periods) (take (i + 1) loads) limit) (demandFP periods loads i) limit
       (λ t. demand-prefix (take (i + 1) (replicate 64 1)) periods loads i limit t prefix-ways prefix-one)
+
+-- the periods alone
+pub periods-range : {queues periods loads : List ℕ} → InRange queues periods loads → PeriodsInRange periods
+periods-range r =
+    record {
+      least = λ j h. r .periodsLeast j (omega (arith, r .periodsLength));
+      most = λ j h. r .periodsMost j (omega (arith, r .periodsLength));
+    }

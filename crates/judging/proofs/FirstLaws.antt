@@ -21,6 +21,9 @@ module _ (test : ℕ → Bool) where
   unfolding firstBelow orElse
   first-miss i t h = ap (λ (n : ℕ). firstBelow n test) (add-one i) ∙ rw (h, t)
 
+  pub first-next : (i : ℕ) → test i ≡ false → firstBelow i test ≡ Nothing → firstBelow (suc i) test ≡ Nothing
+  first-next i t h = ap (λ (n : ℕ). firstBelow n test) (sym (add-one i)) ∙ first-miss i t h
+
   -- the test holds at i: it is the first, however far one looks
   first-keep : (n i : ℕ) → firstBelow n test ≡ At i → firstBelow (suc n) test ≡ At i
   unfolding firstBelow orElse

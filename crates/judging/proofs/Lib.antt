@@ -6,3 +6,4 @@ pub mod FirstLaws
 pub mod ColumnLaws
 pub mod VerdictLaws
 pub mod PassLaws
+pub mod FixedLaws

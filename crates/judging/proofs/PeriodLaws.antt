@@ -32,7 +32,7 @@ use native.Mathlib.Nat.{
 }
 use native.Mathlib.Numerals.{add-one}
 use native.Mathlib.Omega.{arith}
-use lib.Dec.{eqb, leb}
+use lib.Dec.{eqb, leb, ltb}
 use borrow.Author.Tests.{eqb-true, eqb-false, leb-true, leb-false, le-leb, lt-leb, lt-ltb, le-ltb, ne-eqb}
 use Rattle.judging.specs.Periods.{at, gcdIn, gcdOf, lcmOf, sharedPeriod, SharedPeriod, tooLong}
 
@@ -205,6 +205,19 @@ module _ (queues periods : List ℕ) where
   pub shared-out : (i : ℕ) → 2 < at queues i → sharedPeriod queues periods (i + 1) ≡ sharedPeriod queues periods i
   unfolding sharedPeriod
   shared-out i q = rw (add-one i, lt-leb (at queues i) 2 q)
+
+  pub shared-start : 1 ≡ sharedPeriod queues periods 0
+  unfolding sharedPeriod
+  shared-start = refl
+
+  pub shared-suc : (i h : ℕ) → h ≡ sharedPeriod queues periods i
+      → cond (leb (at queues i) 2) (lcmOf h (at periods i)) h ≡ sharedPeriod queues periods (suc i)
+  unfolding sharedPeriod
+  shared-suc i h e = ap (λ (z : ℕ). cond (leb (at queues i) 2) (lcmOf z (at periods i)) z) e
+
+  pub long-test : (i g : ℕ) (t : Bool) → g ≡ sharedPeriod queues periods (suc i) → ltb 1000000000000 g ≡ t → tooLong queues periods i ≡ t
+  unfolding tooLong
+  long-test i g t e h = ap (ltb 1000000000000) (sym e) ∙ h
 
   -- the test of 10
   pub too-long : (i : ℕ) → 1000000000000 < sharedPeriod queues periods (i + 1) → tooLong queues periods i ≡ true

@@ -5,6 +5,11 @@ use mathlib.Core.List.{List}
 use lib.ListN.{length}
 use Rattle.judging.specs.Periods.{at}
 
+-- periods as in 01, "The image"
+pub record PeriodsInRange (periods : List ℕ) : Type 0 where
+  pub least : (j : ℕ) → j < length periods → 1000 ≤ at periods j
+  pub most : (j : ℕ) → j < length periods → at periods j ≤ 100000000
+
 -- a queue, a period and a load for each of at most 64 tasks; periods as in 01, "The image"
 pub record InRange (queues periods loads : List ℕ) : Type 0 where
   pub periodsLength : length periods ≡ length queues

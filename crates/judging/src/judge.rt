@@ -111,7 +111,7 @@ fn outcome(queues: &[u8], periods: &[u64], loads: &[u64]) -> Outcome
     if queues.len() == 0 {
         return unnamed(numbers::NO_TASK);
     }
-    let shared = sums::shared_period(queues, periods, loads);
+    let shared = sums::shared_period(queues, periods);
     match shared {
         Shared::Above(i) => named(numbers::SHARED_PERIOD, i),
         Shared::Within(h) => {

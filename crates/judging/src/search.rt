@@ -4,7 +4,7 @@ ghost use Prim.Native.Nat.{ℕ, _≤_, _<_};
 ghost use lib.ListN.{length};
 ghost use Rattle.judging.specs.Periods.{at};
 ghost use Rattle.judging.specs.Demands.{counted, demandDP2, hasTime};
-ghost use Rattle.judging.specs.Ranges.{InRange};
+ghost use Rattle.judging.specs.Ranges.{PeriodsInRange, InRange};
 ghost use Rattle.judging.specs.Search.{NextTime};
 
 // How often a load counts up to t: ceil(t/period) in queue 1, the star count in queue 2, else not at all.
@@ -40,8 +40,8 @@ fn demand(queues: &[u8], periods: &[u64], loads: &[u64], own: u64, t: u64) -> u6
 }
 
 // The first multiple of a period after t, or the limit where that comes before.
-fn next(queues: &[u8], periods: &[u64], loads: &[u64], t: u64, limit: u64) -> u64
-    requires { ⌜ InRange (now queues) (now periods) (now loads) × (t < limit) × (limit ≤ 100000000) ⌝ }
+fn next(periods: &[u64], t: u64, limit: u64) -> u64
+    requires { ⌜ PeriodsInRange (now periods) × (t < limit) × (limit ≤ 100000000) ⌝ }
     ensures { λ r. ⌜ NextTime (now (periods .entry)) t limit r ⌝ }
 {
     let mut best = limit;
@@ -65,7 +65,7 @@ pub fn has_time(queues: &[u8], periods: &[u64], loads: &[u64], limit: u64) -> bo
 {
     let mut t: u64 = 0;
     while t < limit {
-        t = next(queues, periods, loads, t, limit);
+        t = next(periods, t, limit);
         if demand(queues, periods, loads, limit, t) <= t {
             return true;
         }

@@ -3,7 +3,7 @@ ghost use mathlib.Core.Path.{_≡_};
 ghost use Prim.Native.Nat.{ℕ, _≤_, _<_, _∣_};
 ghost use lib.ListN.{length};
 ghost use Rattle.judging.specs.Periods.{at, gcdOf, overFull};
-ghost use Rattle.judging.specs.Ranges.{InRange, Common};
+ghost use Rattle.judging.specs.Ranges.{PeriodsInRange, InRange, Common};
 ghost use Rattle.judging.specs.Verdicts.{sharedOf};
 use crate::Shared;
 use table::limits;
@@ -23,8 +23,8 @@ fn gcd(a: u64, b: u64) -> u64
 }
 
 // The shared period, taken in table order. It is compared with its limit before it grows: no product is too large.
-pub fn shared_period(queues: &[u8], periods: &[u64], loads: &[u64]) -> Shared
-    requires { ⌜ InRange (now queues) (now periods) (now loads) ⌝ }
+pub fn shared_period(queues: &[u8], periods: &[u64]) -> Shared
+    requires { ⌜ (length (now periods) ≡ length (now queues)) × PeriodsInRange (now periods) ⌝ }
     ensures { λ r. ⌜ r ≡ sharedOf (now (queues .entry)) (now (periods .entry)) ⌝ }
 {
     let mut h: u64 = 1;

@@ -1,6 +1,8 @@
-pub mod Tightness
-pub mod FirstLaws
-pub mod Replay
-pub mod Undone
+-- What is shown of the whole executive: the proofs.
+pub mod CaseLaws
 pub mod Exactly
+pub mod FirstLaws
 pub mod Numbers
+pub mod Replay
+pub mod Tightness
+pub mod Undone

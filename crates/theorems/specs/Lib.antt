@@ -1,6 +1,7 @@
 -- What is shown of the whole executive: the statements.
-pub mod Tight
-pub mod When
-pub mod Histories
-pub mod Undo
+pub mod Cases
 pub mod Conditions
+pub mod Histories
+pub mod Tight
+pub mod Undo
+pub mod When

@@ -12,6 +12,7 @@ use Rattle.table.specs.declared.Found.the-variants.{Nothing}
 use Rattle.judging.specs.Periods.{sharedPeriod}
 use Rattle.judging.specs.Ranges.{Common}
 use Rattle.judging.specs.Verdicts.{firstLong}
+use Rattle.judging.proofs.DemandLaws.{periods-range}
 use Rattle.judging.proofs.VerdictLaws.{
   shared-above,
   shared-within,
@@ -34,7 +35,7 @@ returns : tie.Need-returns
 returns c = c .unnamed .ensures ∙ outcome-7 (c .before .before .before .before .before .args .queues .now) (c .before .before .before .before .before .args .periods .now) (c .before .before .before .before .before .args .loads .now) (eq-eqb _ _ (c .before .if1 .taken))
 
 shared-period-requires : tie.Need-shared-period-requires
-shared-period-requires c κs = search needs
+shared-period-requires c κs = (c .before .before .before .before .pre .periodsLength, periods-range (c .before .before .before .before .pre))
 
 enum-known-shared : tie.Need-enum-known-shared
 enum-known-shared c = search needs

@@ -5,7 +5,7 @@ use mathlib.Core.Path.{_≡_, sym}
 use mathlib.Core.Logic.{_⊎_, ⊎-elim}
 use native.Mathlib.Omega.{arith}
 use Rattle.judging.specs.Demands.{demandDP2}
-use Rattle.judging.proofs.DemandLaws.{demand-still, decided-some, decided-none, le-or-lt}
+use Rattle.judging.proofs.DemandLaws.{periods-range, demand-still, decided-some, decided-none, le-or-lt}
 use Rattle.judging.proofs.search.has_time.Statement.{statement}
 use Rattle.judging.proofs.search.has_time.Tie as tie
 
@@ -19,7 +19,7 @@ loop-holds : tie.Need-loop-holds Inv-loop μ-loop
 loop-holds c = (omega arith, λ s h k. absurd (omega arith))
 
 next-requires : tie.Need-next-requires Inv-loop μ-loop
-next-requires c κs = (c .before .before .before .before .before .pre .0, c .loop-test .taken, c .before .before .before .before .before .pre .1)
+next-requires c κs = (periods-range (c .before .before .before .before .before .pre .0), c .loop-test .taken, c .before .before .before .before .before .pre .1)
 
 demand-requires : tie.Need-demand-requires Inv-loop μ-loop
 demand-requires c κs = (c .before .before .before .before .before .before .pre .0, omega (arith, c .next .ensures .most, c .before .before .before .before .before .before .pre .1))

@@ -13,11 +13,11 @@ use Rattle.judging.proofs.search.next.Statement.{statement}
 use Rattle.judging.proofs.search.next.Tie as tie
 
 abbrev Inv-loop : tie.InvT-loop
-Inv-loop queues periods loads t limit best₀ i₀ best i =
+Inv-loop periods t limit best₀ i₀ best i =
     (i ≤ length periods) × (t < best) × (best ≤ limit) × ((j : ℕ) → j < i → best ≤ (t / at periods j + 1) * at periods j)
 
 abbrev μ-loop : tie.MeasureT-loop
-μ-loop queues periods loads t limit best₀ i₀ best i = length periods - i
+μ-loop periods t limit best₀ i₀ best i = length periods - i
 
 loop-holds : tie.Need-loop-holds Inv-loop μ-loop
 loop-holds c = (omega arith, c .pre .1, omega arith, λ j h. absurd (not-suc-le-zero h))
@@ -33,8 +33,8 @@ range : (c : tie.After-shared-slice-known Inv-loop μ-loop)
     → (1000 ≤ at (c .before .before .before .args .periods .now) (c .before .before .loop .i)) × (at (c .before .before .before .args .periods .now) (c .before .before .loop .i) ≤ 100000000)
 range c =
     let r = c .before .before .before .pre .0 in
-    let l : c .before .before .loop .i < length (c .before .before .before .args .queues .now) = omega (arith, r .periodsLength, c .before .loop-test .taken) in
-    (r .periodsLeast (c .before .before .loop .i) l, r .periodsMost (c .before .before .loop .i) l)
+    let i = c .before .before .loop .i in
+    (r .least i (c .before .loop-test .taken), r .most i (c .before .loop-test .taken))
 
 div-multiple : tie.Need-div-multiple Inv-loop μ-loop
 div-multiple c = omega (arith, range c .0)

@@ -18,16 +18,16 @@ use Rattle.judging.proofs.sums.shared_period.Statement.{statement}
 use Rattle.judging.proofs.sums.shared_period.Tie as tie
 
 abbrev Inv-loop : tie.InvT-loop
-Inv-loop queues periods loads h₀ i₀ h i =
+Inv-loop queues periods h₀ i₀ h i =
     (i ≤ length queues) × (h ≡ sharedPeriod queues periods i) × (1 ≤ h) × (h ≤ 1000000000000)
     × (firstBelow i (tooLong queues periods) ≡ Nothing)
 
 abbrev μ-loop : tie.MeasureT-loop
-μ-loop queues periods loads h₀ i₀ h i = length queues - i
+μ-loop queues periods h₀ i₀ h i = length queues - i
 
 loop-holds : tie.Need-loop-holds Inv-loop μ-loop
 unfolding sharedPeriod
-loop-holds c = (omega arith, refl, omega arith, omega arith, first-start (tooLong (c .before .before .before .args .queues .now) (c .before .before .before .args .periods .now)))
+loop-holds c = (omega arith, refl, omega arith, omega arith, first-start (tooLong (c .before .before .args .queues .now) (c .before .before .args .periods .now)))
 
 shared-slice-read-if1 : tie.Need-shared-slice-read-if1 Inv-loop μ-loop
 shared-slice-read-if1 c = search needs
@@ -42,22 +42,24 @@ gcd-requires : tie.Need-gcd-requires Inv-loop μ-loop
 gcd-requires c κs = search needs
 
 -- the period is positive, so its part is; with it the shared period grows
-period : (c : tie.After-gcd Inv-loop μ-loop) → 0 < at (c .before .before .before .before .before .before .before .before .before .args .periods .now) (c .before .before .before .before .before .loop .i)
-period c = omega (arith, c .before .before .before .before .before .before .before .before .before .pre .periodsLeast (c .before .before .before .before .before .loop .i) (c .before .before .before .before .loop-test .taken))
+period : (c : tie.After-gcd Inv-loop μ-loop) → 0 < at (c .before .before .before .before .before .before .before .before .args .periods .now) (c .before .before .before .before .before .loop .i)
+period c =
+    let l : c .before .before .before .before .before .loop .i < length (c .before .before .before .before .before .before .before .before .args .periods .now) = omega (arith, c .before .before .before .before .before .before .before .before .pre .0, c .before .before .before .before .loop-test .taken) in
+    omega (arith, c .before .before .before .before .before .before .before .before .pre .1 .least (c .before .before .before .before .before .loop .i) l)
 
-part : (c : tie.After-gcd Inv-loop μ-loop) → 0 < at (c .before .before .before .before .before .before .before .before .before .args .periods .now) (c .before .before .before .before .before .loop .i) / c .gcd .result
-part c = rw (c .gcd .ensures) (gcd-part-pos (c .before .before .before .before .before .loop .h) (at (c .before .before .before .before .before .before .before .before .before .args .periods .now) (c .before .before .before .before .before .loop .i)) (c .before .before .before .before .before .loop .inv .2) (period c))
+part : (c : tie.After-gcd Inv-loop μ-loop) → 0 < at (c .before .before .before .before .before .before .before .before .args .periods .now) (c .before .before .before .before .before .loop .i) / c .gcd .result
+part c = rw (c .gcd .ensures) (gcd-part-pos (c .before .before .before .before .before .loop .h) (at (c .before .before .before .before .before .before .before .before .args .periods .now) (c .before .before .before .before .before .loop .i)) (c .before .before .before .before .before .loop .inv .2) (period c))
 
 grown : (c : tie.After-gcd Inv-loop μ-loop)
-    → c .before .before .before .before .before .loop .h * (at (c .before .before .before .before .before .before .before .before .before .args .periods .now) (c .before .before .before .before .before .loop .i) / c .gcd .result)
-    ≡ sharedPeriod (c .before .before .before .before .before .before .before .before .before .args .queues .now) (c .before .before .before .before .before .before .before .before .before .args .periods .now) (c .before .before .before .before .before .loop .i + 1)
+    → c .before .before .before .before .before .loop .h * (at (c .before .before .before .before .before .before .before .before .args .periods .now) (c .before .before .before .before .before .loop .i) / c .gcd .result)
+    ≡ sharedPeriod (c .before .before .before .before .before .before .before .before .args .queues .now) (c .before .before .before .before .before .before .before .before .args .periods .now) (c .before .before .before .before .before .loop .i + 1)
 grown c =
-    let a = c .before .before .before .before .before .before .before .before .before .args in
+    let a = c .before .before .before .before .before .before .before .before .args in
     let l = c .before .before .before .before .before .loop in
     shared-in (a .queues .now) (a .periods .now) (l .i) (l .h) (c .gcd .result) (c .before .before .if1 .taken) (l .inv .1) (c .gcd .ensures)
 
 div-part : tie.Need-div-part Inv-loop μ-loop
-div-part c = rw (c .gcd .ensures) (gcd-pos (c .before .before .before .before .before .loop .h) (at (c .before .before .before .before .before .before .before .before .before .args .periods .now) (c .before .before .before .before .before .loop .i)) (c .before .before .before .before .before .loop .inv .2) (period c))
+div-part c = rw (c .gcd .ensures) (gcd-pos (c .before .before .before .before .before .loop .h) (at (c .before .before .before .before .before .before .before .before .args .periods .now) (c .before .before .before .before .before .loop .i)) (c .before .before .before .before .before .loop .inv .2) (period c))
 
 div-if2 : tie.Need-div-if2 Inv-loop μ-loop
 div-if2 c = part c
@@ -65,7 +67,7 @@ div-if2 c = part c
 returns : tie.Need-returns Inv-loop μ-loop
 unfolding sharedOf firstLong sharedBy
 returns c =
-    let a = c .before .before .before .before .before .before .before .before .before .before .args in
+    let a = c .before .before .before .before .before .before .before .before .before .args in
     let l = c .before .before .before .before .before .before .loop in
     let above =
     too-long (a .queues .now) (a .periods .now) (l .i)
@@ -86,13 +88,13 @@ loop-less c = search needs
 
 loop-again : tie.Need-loop-again Inv-loop μ-loop
 loop-again c =
-    let a = c .before .before .before .before .before .before .before .args in
+    let a = c .before .before .before .before .before .before .args in
     let l = c .before .before .before .loop in
     let facts : (c .if1 .h ≡ sharedPeriod (a .queues .now) (a .periods .now) (l .i + 1)) × (1 ≤ c .if1 .h) × (c .if1 .h ≤ 1000000000000) =
     ⊎-elim
     (λ w.
     let g : tie.After-gcd Inv-loop μ-loop =
-    record { before = record { before = record { before = c .before; if1 = w .0 }; shared-slice-known5 = w .1 }; gcd = w .2 }
+    record { before = record { before = record { before = c .before; if1 = w .0 }; shared-slice-known4 = w .1 }; gcd = w .2 }
     in
     let within : l .h * (at (a .periods .now) (l .i) / w .2 .result) ≤ 1000000000000 = product-within 1000000000000 (l .h) _ (part g) (w .3 .left) in
     let some : 0 < l .h * (at (a .periods .now) (l .i) / w .2 .result) = mul-pos (l .inv .2) (part g) in
@@ -111,7 +113,7 @@ loop-again c =
 returns-2 : tie.Need-returns-2 Inv-loop μ-loop
 unfolding sharedOf firstLong sharedBy
 returns-2 c =
-    let a = c .before .before .before .before .before .args in
+    let a = c .before .before .before .before .args in
     let l = c .before .loop in
     let e : l .i ≡ length (a .queues .now) = omega arith in
     ap Within (l .inv .1 ∙ ap (sharedPeriod (a .queues .now) (a .periods .now)) e)

@@ -1,0 +1,124 @@
+-- Every row of the table of cases holds: each is decided by computation, and the decision is proved right once, for all rows.
+-- Assumes nothing.
+use Prim.Native.Nat.{ℕ, zero, suc, _≤_, _<_}
+use mathlib.Core.Path.{_≡_, refl, sym, ap, _∙_}
+use mathlib.Core.Bool.{Bool, true, false, cond, _&&_}
+use mathlib.Core.List.{List, [], _∷_, map}
+use native.Mathlib.Nat.{not-suc-le-zero}
+use native.Mathlib.Omega.{arith}
+use lib.Dec.{eqb, ltb}
+use lib.ListN.{length, getD}
+use borrow.Author.Tests.{eqb-true, ltb-true}
+use Rattle.table.specs.declared.Board.{Board}
+use Rattle.table.specs.declared.Task.{Task}
+use Rattle.table.specs.declared.Found.the-variants.{At, Nothing}
+use Rattle.table.specs.Entries.{builtIn, blankTask}
+use Rattle.table.specs.Refusals.{firstOf}
+use Rattle.table.specs.Sums.{sumOf, countOf, every}
+use Rattle.table.proofs.SumLaws.{both-left, both-right, every-at}
+use Rattle.charges.specs.Charges.{
+  tasksIn,
+  countsOf,
+  choiceDP,
+  choiceFP,
+  sumDP1,
+  sumDP2,
+  sumFP,
+  sumBy,
+  chargeBy,
+  loadBy,
+  chargeOf,
+  loadOf,
+}
+use Rattle.judging.specs.declared.Verdict.{Verdict}
+use Rattle.judging.specs.declared.Outcome.{Outcome}
+use Rattle.judging.specs.Periods.{at, plus, fractions, aboveOne, overFull}
+use Rattle.judging.specs.Demands.{sumTo, ceil, star, counted, demandDP2, demandFP}
+use Rattle.judging.specs.Verdicts.{
+  orElse,
+  firstBelow,
+  found,
+  outcomeAt,
+  outcomeOf,
+  queuesOf,
+  periodsOf,
+  loadsOf,
+  nameOf,
+  named,
+  verdictOf,
+}
+use Rattle.judging.proofs.ColumnLaws.{queues-length, periods-length}
+use Rattle.judging.proofs.FixedLaws.{forced, forcedList, forced-list, gcdForced, lcmForced, longFrom, fixedFrom, fixedUpTo, fixedDP2, fixedFP, fixedOutcome, fixed-outcome}
+use Rattle.theorems.specs.Cases.{Case, judged, Holds, task, workload, cases, All}
+
+-- two lists of numbers are equal
+same : List ℕ → List ℕ → Bool
+same [] [] = true
+same [] (y ∷ ys) = false
+same (x ∷ xs) [] = false
+same (x ∷ xs) (y ∷ ys) = eqb x y && same xs ys
+
+same-true : (xs ys : List ℕ) → same xs ys ≡ true → xs ≡ ys
+unfolding same
+same-true [] [] h = refl
+same-true [] (y ∷ ys) h = let z : _≡_ {A = ℕ} 0 1 = cc in absurd (omega arith)
+same-true (x ∷ xs) [] h = let z : _≡_ {A = ℕ} 0 1 = cc in absurd (omega arith)
+same-true (x ∷ xs) (y ∷ ys) h =
+    let a : x ≡ y = eqb-true x y (both-left (eqb x y) (same xs ys) h) in
+    let b : xs ≡ ys = same-true xs ys (both-right (eqb x y) (same xs ys) h) in
+    cc
+
+-- the verdict, with the times decided in few steps
+fixedVerdict : List Task → Board → Verdict
+fixedVerdict tasks board =
+    forcedList (queuesOf tasks)
+    (λ queues.
+    forcedList (periodsOf tasks)
+    (λ periods. forcedList (loadsOf tasks board) (λ loads. named tasks (fixedOutcome queues periods loads))))
+
+-- a row is right
+right : Case → Bool
+right (judged tasks board charges number task) =
+    every (λ p. ltb 0 p) (periodsOf tasks)
+    && same (map (chargeOf tasks board) tasks) charges
+    && (eqb (fixedVerdict tasks board .number) number && eqb (fixedVerdict tasks board .task) task)
+
+fixed-verdict : (tasks : List Task) (board : Board) → every (λ p. ltb 0 p) (periodsOf tasks) ≡ true → fixedVerdict tasks board ≡ verdictOf tasks board
+unfolding fixedVerdict verdictOf
+fixed-verdict tasks board h =
+    forced-list (queuesOf tasks)
+    (λ queues. forcedList (periodsOf tasks) (λ periods. forcedList (loadsOf tasks board) (λ loads. named tasks (fixedOutcome queues periods loads))))
+    ∙ forced-list (periodsOf tasks)
+    (λ periods. forcedList (loadsOf tasks board) (λ loads. named tasks (fixedOutcome (queuesOf tasks) periods loads)))
+    ∙ forced-list (loadsOf tasks board) (λ loads. named tasks (fixedOutcome (queuesOf tasks) (periodsOf tasks) loads))
+    ∙ ap (named tasks)
+    (fixed-outcome (queuesOf tasks) (periodsOf tasks) (loadsOf tasks board)
+    (λ j k.
+    ltb-true 0 (at (periodsOf tasks) j)
+    (every-at (λ p. ltb 0 p) (periodsOf tasks) h j (omega (arith, queues-length tasks, periods-length tasks)) 0)))
+
+right-holds : (c : Case) → right c ≡ true → Holds c
+unfolding right
+right-holds (judged tasks board charges number task) h =
+    let p = every (λ p. ltb 0 p) (periodsOf tasks) in
+    let c = same (map (chargeOf tasks board) tasks) charges in
+    let v = fixedVerdict tasks board in
+    let n = eqb (v .number) number in
+    let t = eqb (v .task) task in
+    let pc = both-left (p && c) (n && t) h in
+    let nt = both-right (p && c) (n && t) h in
+    let number-is : v .number ≡ number = eqb-true (v .number) number (both-left n t nt) in
+    let task-is : v .task ≡ task = eqb-true (v .task) task (both-right n t nt) in (
+      same-true (map (chargeOf tasks board) tasks) charges (both-right p c pc),
+      sym (fixed-verdict tasks board (both-left p c pc)) ∙ (λ i. record { number = number-is i; task = task-is i }),
+    )
+
+all-right : (l : List Case) → every right l ≡ true → All l
+unfolding every
+all-right [] h = tt
+all-right (c ∷ rest) h = (right-holds c (both-left (right c) (every right rest) h), all-right rest (both-right (right c) (every right rest) h))
+
+-- P1 to P9
+pub cases-hold : All cases
+unfolding cases right same every fixedVerdict forced forcedList gcdForced lcmForced longFrom fixedFrom fixedUpTo fixedDP2 fixedFP fixedOutcome tasksIn countsOf choiceDP choiceFP sumDP1 sumDP2 sumFP sumBy chargeBy loadBy chargeOf loadOf plus fractions aboveOne overFull sumTo ceil star counted demandDP2 demandFP orElse firstBelow found queuesOf periodsOf loadsOf nameOf named builtIn firstOf sumOf countOf
+cases-hold = all-right cases refl
