@@ -9,7 +9,7 @@ use native.Mathlib.Omega.{arith}
 use lib.Dec.{ltb, eqb}
 use lib.ListN.{length, getD, take}
 use lib.Seq.{getD-take}
-use borrow.Author.Tests.{lt-ltb, le-ltb, eq-eqb, ne-eqb, eqb-false, ltb-false}
+use borrow.Author.Tests.{lt-ltb, le-ltb, eq-eqb, ne-eqb, eqb-true, eqb-false, ltb-false}
 use Rattle.table.specs.declared.Task.{Task}
 use Rattle.table.specs.declared.Sem.{Sem}
 use Rattle.table.specs.declared.Status.{Status}
@@ -52,6 +52,20 @@ module _ {A : Type 0} (number : ℕ) (rest : ℕ → List (ℕ × Bool)) (refuse
   -- it was, and no test refuses
   pub call-done : (at : Found) (i : ℕ) → at ≡ At i → firstOf (rest i) ≡ 0 → Call at ≡ done i
   call-done at i e f = passed at i e ∙ answered-done (firstOf (rest i)) refused (done i) f
+
+  -- what every refusal and every accepted call have in common, a call has
+  pub call-keeps : (P : A → Type 0) (at : Found) → number ≢ 0 → ((k : ℕ) → P (refused k)) → ((i : ℕ) → at ≡ At i → firstOf (rest i) ≡ 0 → P (done i))
+      → P (Call at)
+  call-keeps P at ne no-call call = go at refl
+    where
+      go : (f : Found) → at ≡ f → P (Call at)
+      go Nothing e = subst P (sym (call-none at e ne)) (no-call number)
+      go (At i) e = which (eqb (firstOf (rest i)) 0) refl
+        where
+          which : (b : Bool) → eqb (firstOf (rest i)) 0 ≡ b → P (Call at)
+          which true q = let z = eqb-true (firstOf (rest i)) 0 q in subst P (sym (call-done at i e z)) (call i e z)
+          which false q =
+              subst P (sym (call-refused at i (firstOf (rest i)) e refl (eqb-false (firstOf (rest i)) 0 q))) (no-call (firstOf (rest i)))
 
 -- an entry that is in use
 pub task-at : (s : State) (i : ℕ) → i < s .n → taskAt (tasksOf s) i ≡ getD (s .tasks) i blankTask

@@ -7,3 +7,6 @@ pub mod ScanLaws
 pub mod SoundLaws
 pub mod StandingLaws
 pub mod RunLaws
+pub mod KeepLaws
+pub mod SoundCalls
+pub mod DispatchLaws

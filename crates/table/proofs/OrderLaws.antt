@@ -7,15 +7,29 @@ use mathlib.Core.List.{List, [], _∷_, _++_}
 use native.Mathlib.Nat.{le-of-suc-le-suc, not-suc-le-zero}
 use native.Mathlib.Omega.{arith}
 use lib.Dec.{leb, ltb, eqb}
-use lib.ListN.{length, getD}
+use lib.ListN.{length, getD, set, length-set}
 use borrow.Author.Tests.{leb-true, le-leb, ltb-true, eq-eqb, not-true}
 use Rattle.table.specs.declared.Board.{Board}
 use Rattle.table.specs.declared.Task.{Task}
 use Rattle.table.specs.declared.Sem.{Sem}
 use Rattle.table.specs.Entries.{builtIn}
 use Rattle.table.specs.Sums.{every, any}
-use Rattle.table.specs.WellFormed.{within, taskInRange, semInRange, boardInRange, semBefore, ordered, used, usedOnce}
-use Rattle.table.proofs.SumLaws.{both, both-left, both-right, any-none}
+use Rattle.table.specs.declared.Status.{Status}
+use Rattle.table.specs.declared.Holder.{Holder}
+use Rattle.table.specs.Entries.{withStatus, withDeadline, withHolder}
+use Rattle.table.specs.WellFormed.{
+  within,
+  taskInRange,
+  semInRange,
+  boardInRange,
+  taskBefore,
+  semBefore,
+  ordered,
+  used,
+  usedOnce,
+  WellFormed,
+}
+use Rattle.table.proofs.SumLaws.{both, both-left, both-right, any-none, every-set, any-set}
 
 -- a value that lies within its bounds, and back
 pub within-true : (least value most : ℕ) → within least value most ≡ true → (least ≤ value) × (value ≤ most)
@@ -190,3 +204,69 @@ rises (x ∷ y ∷ rest) d h zero (suc (suc j)) less inside =
     omega arith
 rises (x ∷ y ∷ rest) d h (suc i) (suc j) less inside =
     rises (y ∷ rest) d (rising x y rest h .1) i j (le-of-suc-le-suc less) (le-of-suc-le-suc inside)
+
+-- an entry that is replaced by one which stands alike keeps the order
+pub ordered-set : {A : Type 0} (before : A → A → Bool) (l : List A) (i : ℕ) (y d : A)
+    → ((x : A) → before y x ≡ before (getD l i d) x) → ((x : A) → before x y ≡ before x (getD l i d)) → ordered before (set l i y) ≡ ordered before l
+unfolding ordered
+ordered-set before [] i y d h k = refl
+ordered-set before (x ∷ []) zero y d h k = refl
+ordered-set before (x ∷ []) (suc i) y d h k = refl
+ordered-set before (x ∷ z ∷ rest) zero y d h k = ap (λ (b : Bool). b && ordered before (z ∷ rest)) (h z)
+ordered-set before (x ∷ z ∷ rest) (suc zero) y d h k =
+    let a = ordered-set before (z ∷ rest) zero y d h k in
+    ap (λ (b : Bool). b && ordered before (y ∷ rest)) (k x) ∙ ap (λ (b : Bool). before x z && b) a
+ordered-set before (x ∷ z ∷ rest) (suc (suc i)) y d h k = ap (λ (b : Bool). before x z && b) (ordered-set before (z ∷ rest) (suc i) y d h k)
+
+-- numbers that are used once stay so where an entry keeps its number
+pub once-set : (tasks : List Task) (i : ℕ) (y d : Task) → y .number ≡ (getD tasks i d) .number → usedOnce (set tasks i y) ≡ usedOnce tasks
+unfolding usedOnce used
+once-set [] i y d e = refl
+once-set (t ∷ rest) zero y d e = ap (λ (n : ℕ). not (any (λ u. eqb (u .number) n) rest) && usedOnce rest) e
+once-set (t ∷ rest) (suc i) y d e =
+    ap (λ (b : Bool). not b && usedOnce (set rest i y))
+    (any-set (λ u. eqb (u .number) (t .number)) rest i y d (ap (λ (n : ℕ). eqb n (t .number)) e))
+    ∙ ap (λ (b : Bool). not (any (λ u. eqb (u .number) (t .number)) rest) && b) (once-set rest i y d e)
+
+-- a table stays well formed where a task has another deadline or does something else
+pub well-formed-task : (tasks : List Task) (sems : List Sem) (board : Board) (present : Bool) (i : ℕ) (at : ℕ) (now : Status) (d : Task)
+    → WellFormed tasks sems board present → WellFormed (set tasks i (withStatus (withDeadline (getD tasks i d) at) now)) sems board present
+unfolding taskInRange taskBefore
+well-formed-task tasks sems board present i at now d w =
+    let y = withStatus (withDeadline (getD tasks i d) at) now in
+    let l = length-set tasks i y in
+    let some = w .some in
+    let few = w .tasksFit in
+    record {
+      some = omega arith;
+      tasksFit = omega arith;
+      semsFit = w .semsFit;
+      taskRanges = every-set taskInRange tasks i y d refl ∙ w .taskRanges;
+      taskOrder = ordered-set taskBefore tasks i y d (λ x. refl) (λ x. refl) ∙ w .taskOrder;
+      taskNumbers = once-set tasks i y d refl ∙ w .taskNumbers;
+      semRanges = w .semRanges;
+      semOrder = w .semOrder;
+      figures = w .figures;
+      absent = w .absent;
+    }
+
+-- and where a semaphore is held otherwise
+pub well-formed-sem : (tasks : List Task) (sems : List Sem) (board : Board) (present : Bool) (k : ℕ) (now : Holder) (d : Sem)
+    → WellFormed tasks sems board present → WellFormed tasks (set sems k (withHolder (getD sems k d) now)) board present
+unfolding semInRange semBefore
+well-formed-sem tasks sems board present k now d w =
+    let y = withHolder (getD sems k d) now in
+    let l = length-set sems k y in
+    let few = w .semsFit in
+    record {
+      some = w .some;
+      tasksFit = w .tasksFit;
+      semsFit = omega arith;
+      taskRanges = w .taskRanges;
+      taskOrder = w .taskOrder;
+      taskNumbers = w .taskNumbers;
+      semRanges = every-set semInRange sems k y d refl ∙ w .semRanges;
+      semOrder = ordered-set semBefore sems k y d (λ x. refl) (λ x. refl) ∙ w .semOrder;
+      figures = w .figures;
+      absent = w .absent;
+    }

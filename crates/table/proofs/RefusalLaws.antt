@@ -34,8 +34,8 @@ pub firstOf-none : firstOf [] ≡ 0
 unfolding firstOf
 firstOf-none = refl
 
--- where nothing is refused, no test holds
+-- where nothing is refused, no test of a refusal holds
 pub firstOf-zero : (k : ℕ) (test : Bool) (rest : List (ℕ × Bool)) → k ≢ 0 → firstOf ((k, test) ∷ rest) ≡ 0 → (test ≡ false) × (firstOf rest ≡ 0)
 unfolding firstOf
-firstOf-zero k true rest h e = absurd (h e)
-firstOf-zero k false rest h e = (refl, e)
+firstOf-zero k true rest ne e = absurd (ne e)
+firstOf-zero k false rest ne e = (refl, e)

@@ -7,7 +7,7 @@ use mathlib.Core.List.{List, [], _∷_, _++_, map}
 use native.Mathlib.Nat.{add-assoc, zero-add, add-zero, le-refl, le-of-suc-le-suc, not-suc-le-zero, zero-mul, suc-mul}
 use native.Mathlib.Numerals.{add-one}
 use native.Mathlib.Omega.{arith}
-use lib.ListN.{length, getD, take, drop, drop-of-length-le}
+use lib.ListN.{length, getD, take, drop, set, drop-of-length-le}
 use lib.Seq.{take-suc, drop-cons}
 use Rattle.table.specs.Sums.{sumOf, countOf, every, any}
 
@@ -142,6 +142,19 @@ module _ {A : Type 0} where
   unfolding any
   none-any test [] d h = refl
   none-any test (x ∷ xs) d h = rw (h 0 (omega arith)) (none-any test xs d (λ i k. h (suc i) (omega arith)))
+
+  -- an entry that is replaced by one which the test takes alike changes no test over the list
+  pub every-set : (test : A → Bool) (l : List A) (i : ℕ) (y d : A) → test y ≡ test (getD l i d) → every test (set l i y) ≡ every test l
+  unfolding every
+  every-set test [] i y d e = refl
+  every-set test (x ∷ xs) zero y d e = ap (λ (b : Bool). b && every test xs) e
+  every-set test (x ∷ xs) (suc i) y d e = ap (λ (b : Bool). test x && b) (every-set test xs i y d e)
+
+  pub any-set : (test : A → Bool) (l : List A) (i : ℕ) (y d : A) → test y ≡ test (getD l i d) → any test (set l i y) ≡ any test l
+  unfolding any
+  any-set test [] i y d e = refl
+  any-set test (x ∷ xs) zero y d e = ap (λ (b : Bool). b || any test xs) e
+  any-set test (x ∷ xs) (suc i) y d e = ap (λ (b : Bool). test x || b) (any-set test xs i y d e)
 
 -- a test of what a function makes of the entries
 pub any-map : {A B : Type 0} (f : A → B) (test : B → Bool) (l : List A) → any test (map f l) ≡ any (λ x. test (f x)) l
