@@ -1,19 +1,32 @@
 -- The lines of the tasks, one behind the other, and how many bytes they take.
 -- Assumes nothing.
 use Prim.Native.Nat.{ℕ, zero, suc, _+_, _*_, _≤_, _<_}
-use mathlib.Core.Path.{_≡_, refl, sym, ap, _∙_}
+use mathlib.Core.Path.{_≡_, refl, sym, ap, subst, _∙_}
+use mathlib.Core.Logic.{_≢_}
+use mathlib.Core.Bool.{cond}
 use mathlib.Core.List.{List, [], _∷_, _++_, append-assoc, append-nil}
+use native.Mathlib.Nat.{zero-add}
 use native.Mathlib.Numerals.{add-one}
 use native.Mathlib.Omega.{arith}
 use lib.ListN.{length, getD, take, length-append}
+use lib.Dec.{eqb}
 use lib.Seq.{take-suc}
+use borrow.Author.Tests.{lt-ltb, le-ltb, eq-eqb, ne-eqb}
 use Rattle.table.specs.declared.Task.{Task}
 use Rattle.lines.specs.Lines.{Put, numbered, lineOf}
 use Rattle.lines.proofs.PutLaws.{put-more, numbered-short}
 use Rattle.charges.specs.declared.Counts.{Counts}
 use Rattle.charges.specs.Charges.{chargeBy}
-use Rattle.judging.specs.declared.Verdict.{Verdict}
-use Rattle.report.specs.Report.{taskWord, verdictWord, lineBy, linesBy, verdictLine}
+use Rattle.judging.specs.Verdicts.{verdictOf}
+use Rattle.executive.specs.States.{tasksOf}
+use Rattle.image.specs.declared.load.Loaded.{Loaded}
+use Rattle.image.specs.Loading.{loadOf}
+use Rattle.image.proofs.RoundTrips.{loaded-sound}
+use Rattle.records.specs.Records.{Bytes}
+use Rattle.executive.specs.Sound.{Sound}
+use Rattle.report.specs.Report.{
+  Reported, reportOf, stateLines, taskLines, imageLine, imageWord, taskWord, lineBy, linesBy, verdictLine
+}
 
 -- a line takes its word, 21 bytes for each number, and its end at the most
 pub line-short : (word numbers : List ℕ) → length (lineOf word numbers) ≤ length word + 21 * length numbers + 1
@@ -44,3 +57,33 @@ lines-more counts l i d h =
 pub put-lines-more : (counts : Counts) (l : List Task) (i : ℕ) (d : Task) {a b c : List ℕ} {at end : ℕ} → i < length l
     → Put a 0 (linesBy counts (take i l)) b at → Put b at (lineBy counts (getD l i d)) c end → Put a 0 (linesBy counts (take (i + 1) l)) c end
 put-lines-more counts l i d h p q = rw (lines-more counts l i d h) (put-more (linesBy counts (take i l)) (lineBy counts (getD l i d)) p q)
+
+-- a buffer that might be too short is left as it was
+pub reported-short : (image before : List ℕ) → length before < 4402 → Reported image before before 0
+reported-short image before h = record { contents = rw (lt-ltb (length before) 4402 h); ends = rw (lt-ltb (length before) 4402 h) }
+
+-- else the output is put at its front
+pub reported-put : (image before after : List ℕ) (end : ℕ) → 4402 ≤ length before → Put before 0 (reportOf image) after end → Reported image before after end
+reported-put image before after end h p =
+    record {
+      contents = rw (le-ltb (length before) 4402 h) (p .contents);
+      ends = rw (le-ltb (length before) 4402 h) (p .ends ∙ zero-add (length (reportOf image)));
+    }
+
+-- what is printed for an image that is refused, and for one that is not
+pub report-refused : (image : List ℕ) (l : Loaded) → l ≡ loadOf image → l .number ≢ 0 → reportOf image ≡ lineOf imageWord (l .number ∷ l .place ∷ [])
+unfolding reportOf imageLine
+report-refused image l e h =
+    subst (λ (x : Loaded). cond (eqb (x .number) 0) (stateLines (x .state)) (imageLine x) ≡ lineOf imageWord (l .number ∷ l .place ∷ [])) e
+    (rw (ne-eqb (l .number) 0 h))
+
+pub report-accepted : (image : List ℕ) (l : Loaded) → l ≡ loadOf image → l .number ≡ 0
+    → reportOf image ≡ taskLines (tasksOf (l .state)) ((l .state) .board) ++ verdictLine (verdictOf (tasksOf (l .state)) ((l .state) .board))
+unfolding reportOf stateLines
+report-accepted image l e h =
+    subst (λ (x : Loaded). cond (eqb (x .number) 0) (stateLines (x .state)) (imageLine x) ≡ stateLines (l .state)) e
+    (rw (eq-eqb (l .number) 0 h))
+
+-- what was loaded is sound
+pub sound-of : (image : List ℕ) (l : Loaded) → l ≡ loadOf image → Bytes image → Sound (l .state)
+sound-of image l e bytes = subst (λ (x : Loaded). Sound (x .state)) (sym e) (loaded-sound image bytes)
