@@ -17,6 +17,7 @@ use Rattle.lines.specs.Lines.{Put, numbered, lineOf}
 use Rattle.lines.proofs.PutLaws.{put-more, numbered-short}
 use Rattle.charges.specs.declared.Counts.{Counts}
 use Rattle.charges.specs.Charges.{chargeBy}
+use Rattle.judging.specs.declared.Verdict.{Verdict}
 use Rattle.judging.specs.Verdicts.{verdictOf}
 use Rattle.executive.specs.States.{tasksOf}
 use Rattle.image.specs.declared.load.Loaded.{Loaded}
@@ -25,7 +26,17 @@ use Rattle.image.proofs.RoundTrips.{loaded-sound}
 use Rattle.records.specs.Records.{Bytes}
 use Rattle.executive.specs.Sound.{Sound}
 use Rattle.report.specs.Report.{
-  Reported, reportOf, stateLines, taskLines, imageLine, imageWord, taskWord, lineBy, linesBy, verdictLine
+  Reported,
+  reportOf,
+  stateLines,
+  taskLines,
+  imageLine,
+  imageWord,
+  taskWord,
+  verdictWord,
+  lineBy,
+  linesBy,
+  verdictLine,
 }
 
 -- a line takes its word, 21 bytes for each number, and its end at the most
@@ -40,6 +51,10 @@ line-short word numbers =
 pub task-short : (counts : Counts) (t : Task) → length (lineBy counts t) ≤ 68
 unfolding lineBy taskWord
 task-short counts t = line-short (116 ∷ 97 ∷ 115 ∷ 107 ∷ []) (t .number ∷ t .queue ∷ chargeBy counts t ∷ [])
+
+pub verdict-short : (v : Verdict) → length (verdictLine v) ≤ 50
+unfolding verdictLine verdictWord
+verdict-short v = line-short (118 ∷ 101 ∷ 114 ∷ 100 ∷ 105 ∷ 99 ∷ 116 ∷ []) (v .number ∷ v .task ∷ [])
 
 -- the lines of one task more
 lines-append : (counts : Counts) (xs : List Task) (t : Task) → linesBy counts (xs ++ (t ∷ [])) ≡ linesBy counts xs ++ lineBy counts t
@@ -60,14 +75,16 @@ put-lines-more counts l i d h p q = rw (lines-more counts l i d h) (put-more (li
 
 -- a buffer that might be too short is left as it was
 pub reported-short : (image before : List ℕ) → length before < 4402 → Reported image before before 0
-reported-short image before h = record { contents = rw (lt-ltb (length before) 4402 h); ends = rw (lt-ltb (length before) 4402 h) }
+reported-short image before h = record { contents = rw (lt-ltb (length before) 4402 h); ends = rw (lt-ltb (length before) 4402 h); inside = omega arith }
 
 -- else the output is put at its front
-pub reported-put : (image before after : List ℕ) (end : ℕ) → 4402 ≤ length before → Put before 0 (reportOf image) after end → Reported image before after end
-reported-put image before after end h p =
+pub reported-put : (image before after : List ℕ) (end : ℕ) → 4402 ≤ length before → end ≤ 4402 → Put before 0 (reportOf image) after end
+    → Reported image before after end
+reported-put image before after end h k p =
     record {
       contents = rw (le-ltb (length before) 4402 h) (p .contents);
       ends = rw (le-ltb (length before) 4402 h) (p .ends ∙ zero-add (length (reportOf image)));
+      inside = omega arith;
     }
 
 -- what is printed for an image that is refused, and for one that is not

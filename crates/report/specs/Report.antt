@@ -1,5 +1,5 @@
 -- What the checking program prints (01, "Bench figures").
-use Prim.Native.Nat.{ℕ}
+use Prim.Native.Nat.{ℕ, _≤_}
 use mathlib.Core.Path.{_≡_}
 use mathlib.Core.Bool.{cond}
 use mathlib.Core.List.{List, [], _∷_, _++_}
@@ -54,7 +54,8 @@ stateLines s = taskLines (tasksOf s) (s .board) ++ verdictLine (verdictOf (tasks
 unfoldable pub reportOf : List ℕ → List ℕ
 reportOf image = cond (eqb ((loadOf image) .number) 0) (stateLines ((loadOf image) .state)) (imageLine (loadOf image))
 
--- what is in the lent buffer afterwards, and where the output ends; a buffer below 4,402 bytes is left as it was, and 0 comes back
+-- what is in the lent buffer afterwards, and where the output ends, inside of it; a buffer below 4,402 bytes is left as it was, and 0 comes back
 pub record Reported (image before after : List ℕ) (end : ℕ) : Type 0 where
   pub contents : after ≡ cond (ltb (length before) 4402) before (sets before 0 (reportOf image))
   pub ends : end ≡ cond (ltb (length before) 4402) 0 (length (reportOf image))
+  pub inside : end ≤ length before

@@ -37,7 +37,7 @@ array-copy-out-put-task : tie.Need-array-copy-out-put-task Inv-loop μ-loop
 array-copy-out-put-task c = let z = c .before .before .before .before .before .pre .0 .sized in omega arith
 
 put-task-requires : tie.Need-put-task-requires Inv-loop μ-loop
-put-task-requires c κs = 
+put-task-requires c κs =
     let s = c .before .before .before .before .before .before .before .args .state in
     let z = c .before .before .before .before .before .before .before .pre .0 .sized in
     let l = put-length (c .before .before .before .loop .inv .2) in
@@ -50,7 +50,7 @@ loop-less : tie.Need-loop-less Inv-loop μ-loop
 loop-less c = omega arith
 
 loop-again : tie.Need-loop-again Inv-loop μ-loop
-loop-again c = 
+loop-again c =
     let s = c .before .before .before .before .before .before .before .before .before .before .args .state in
     let z = c .before .before .before .before .before .before .before .before .before .before .pre .0 .sized in
     let loop = c .before .before .before .before .before .before .loop in
@@ -65,12 +65,13 @@ same-length c = put-length (c .before .loop .inv .2)
 
 returns : tie.Need-returns Inv-loop μ-loop
 unfolding taskLines tasksOf
-returns c = 
+returns c =
     let s = c .before .before .before .before .before .args .state in
     let z = c .before .before .before .before .before .pre .0 .sized in
-    let n : c .before .loop .i ≡ s .n = omega arith in
-    ( rw (n, c .before .before .of .ensures) at (c .before .loop .inv .2)
-    , omega arith)
+    let n : c .before .loop .i ≡ s .n = omega arith in (
+      rw (n, c .before .before .of .ensures) at (c .before .loop .inv .2),
+      omega arith,
+    )
 
 pub put-tasks-spec : {M : Type 1} → statement M
 put-tasks-spec =

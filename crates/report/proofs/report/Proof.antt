@@ -1,6 +1,7 @@
 -- `report::report` meets its contract: a refused image has one line, any other a line for each task and one for the verdict.
 -- Assumes nothing.
 use mathlib.Core.Path.{_≡_}
+use mathlib.Core.List.{[], _∷_}
 use native.Mathlib.Omega.{arith}
 use denote.Ref.{now}
 use Rattle.lines.specs.Lines.{Put}
@@ -8,7 +9,7 @@ use Rattle.executive.specs.States.{tasksOf}
 use Rattle.judging.specs.Verdicts.{verdictOf}
 use Rattle.lines.proofs.PutLaws.{put-more}
 use Rattle.report.specs.Report.{imageWord, taskLines, verdictLine}
-use Rattle.report.proofs.LineLaws.{sound-of, reported-short, reported-put, report-refused, report-accepted}
+use Rattle.report.proofs.LineLaws.{line-short, verdict-short, sound-of, reported-short, reported-put, report-refused, report-accepted}
 use borrow.Author.Needs.{needs}
 use Rattle.report.proofs.report.Statement.{statement}
 use Rattle.report.proofs.report.Tie as tie
@@ -36,16 +37,19 @@ same-length c = search needs
 
 returns-2 : tie.Need-returns-2
 unfolding imageWord
-returns-2 c = 
+returns-2 c =
     let a = c .before .before .before .before .before .before .before .before .before .before .before .args in
     let l = c .before .before .before .before .before .before .before .load in
-    reported-put (now (a .image)) (now (a .out)) _ _ (c .before .before .before .before .before .before .before .before .if1 .left)
+    let e = c .before .before .put-line .ensures .ends in
+    let short = line-short imageWord (l .result .number ∷ l .result .place ∷ []) in
+    reported-put (now (a .image)) (now (a .out)) _ _ (c .before .before .before .before .before .before .before .before .if1 .left) (omega arith)
     (rw (report-refused (now (a .image)) (l .result) (l .ensures) (c .before .before .before .before .before .before .if2 .taken)) (c .before .before .put-line .ensures))
 
 put-tasks-requires : tie.Need-put-tasks-requires
-put-tasks-requires c κs =
-    ( sound-of (now (c .before .before .before .before .before .before .before .args .image)) (c .before .before .before .load .result) (c .before .before .before .load .ensures) (λ i h. (c .before .before .before .before .before .before .shared-slice-known .given i) .fits)
-    , omega arith)
+put-tasks-requires c κs = (
+  sound-of (now (c .before .before .before .before .before .before .before .args .image)) (c .before .before .before .load .result) (c .before .before .before .load .ensures) (λ i h. (c .before .before .before .before .before .before .shared-slice-known .given i) .fits),
+  omega arith,
+)
 
 judge-requires : tie.Need-judge-requires
 judge-requires c κs =
@@ -65,8 +69,11 @@ returns-3 c =
     let tasks = c .before .before .before .before .before .before .before .put-tasks .ensures .0 in
     let verdict = c .before .before .put-verdict .ensures in
     let judged : Put (c .before .before .before .before .before .before .before .put-tasks .last .1 .0) (c .before .before .before .before .before .before .before .put-tasks .result) (verdictLine (verdictOf (tasksOf s) (s .board))) (c .before .before .put-verdict .last .1 .0) (c .before .before .put-verdict .result) =
-            rw (c .before .before .before .before .judge .ensures) at verdict in
-    reported-put (now (a .image)) (now (a .out)) _ _ (c .before .before .before .before .before .before .before .before .before .before .before .before .if1 .left)
+    rw (c .before .before .before .before .judge .ensures) at verdict in
+    let e = judged .ends in
+    let short = verdict-short (verdictOf (tasksOf s) (s .board)) in
+    let few = c .before .before .before .before .before .before .before .put-tasks .ensures .1 in
+    reported-put (now (a .image)) (now (a .out)) _ _ (c .before .before .before .before .before .before .before .before .before .before .before .before .if1 .left) (omega arith)
     (rw (report-accepted (now (a .image)) (l .result) (l .ensures) (c .before .before .before .before .before .before .before .before .before .before .if2 .left))
     (put-more (taskLines (tasksOf s) (s .board)) (verdictLine (verdictOf (tasksOf s) (s .board))) tasks judged))
 
