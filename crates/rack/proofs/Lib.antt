@@ -1,0 +1,4 @@
+-- The laws of the boundary.
+pub mod ByteParts
+pub mod LoadCases
+pub mod PlayLaws

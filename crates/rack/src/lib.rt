@@ -1,0 +1,5 @@
+// The boundary for other languages: a static library whose functions take slices and give numbers. include/rack.h
+// declares it for C.
+pub mod play;
+pub mod rewrite;
+pub mod verdict;
