@@ -5,7 +5,7 @@ use mathlib.Core.Path.{_≡_, refl, sym, ap, _∙_}
 use mathlib.Core.Logic.{_↔_}
 use mathlib.Core.Bool.{Bool, true, false, cond, not, _&&_}
 use mathlib.Core.List.{List, [], _∷_}
-use native.Mathlib.Nat.{le-trans}
+use native.Mathlib.Nat.{le-trans, pos-of-ne-zero}
 use native.Mathlib.Omega.{arith}
 use lib.Dec.{eqb, ltb}
 use lib.ListN.{length}
@@ -20,7 +20,8 @@ use Rattle.table.specs.declared.Found.{Found}
 use Rattle.table.specs.declared.Found.the-variants.{At, Nothing}
 use Rattle.table.specs.Refusals.{firstOf}
 use Rattle.table.specs.WellFormed.{WellFormed}
-use Rattle.judging.specs.Periods.{at, sharedPeriod, SharedPeriod, tooLong, fractions, aboveOne, overFull}
+use Rattle.table.proofs.RefusalLaws.{firstOf-zero}
+use Rattle.judging.specs.Periods.{at, sharedPeriod, IsSharedPeriod, tooLong, fractions, aboveOne, overFull}
 use Rattle.judging.specs.Demands.{demandDP2, demandFP, TimeUpTo, timeUpTo, decided}
 use Rattle.judging.specs.Ranges.{InRange}
 use Rattle.judging.specs.Verdicts.{
@@ -49,12 +50,6 @@ use Rattle.judging.proofs.VerdictLaws.{shared-common, outcome-0}
 use Rattle.judging.proofs.judge.judge.Kinds as judge-kinds
 use Rattle.judging.proofs.judge.judge.Reads as judge-reads
 
--- a list of refusals that gives 0 has none that holds
-past : (k : ℕ) (t : Bool) (rest : List (ℕ × Bool)) → 0 < k → firstOf ((k, t) ∷ rest) ≡ 0 → (t ≡ false) × (firstOf rest ≡ 0)
-unfolding firstOf
-past k true rest p h = absurd (omega arith)
-past k false rest p h = (refl, h)
-
 -- a late task, and one that is not
 gate-open : (a b : Bool) → (a && not b) ≡ false → a ≡ true → b ≡ true
 gate-open true true h e = refl
@@ -73,14 +68,14 @@ module _ (queues periods loads : List ℕ) (r : InRange queues periods loads) wh
   passes : numberOf queues periods loads ≡ 0 → (1 ≤ length queues) × AllFive queues periods loads
   unfolding numberOf overFull aboveOne firstLateDP2 firstLateFP lateDP2 lateFP
   passes e =
-      let p7 = past 7 (eqb (length queues) 0) _ (omega arith) e in
-      let p10 = past 10 (found (firstLong queues periods)) _ (omega arith) (p7 .1) in
-      let p11 = past 11 (overFull queues periods loads 1) _ (omega arith) (p10 .1) in
-      let p12 = past 12 (overFull queues periods loads 2) _ (omega arith) (p11 .1) in
-      let p13 = past 13 (found (firstLateDP2 queues periods loads)) _ (omega arith) (p12 .1) in
-      let p14 = past 14 (found (firstLateFP queues periods loads)) _ (omega arith) (p13 .1) in
+      let p7 = firstOf-zero 7 (eqb (length queues) 0) _ (eqb-false 7 0 refl) e in
+      let p10 = firstOf-zero 10 (found (firstLong queues periods)) _ (eqb-false 10 0 refl) (p7 .1) in
+      let p11 = firstOf-zero 11 (overFull queues periods loads 1) _ (eqb-false 11 0 refl) (p10 .1) in
+      let p12 = firstOf-zero 12 (overFull queues periods loads 2) _ (eqb-false 12 0 refl) (p11 .1) in
+      let p13 = firstOf-zero 13 (found (firstLateDP2 queues periods loads)) _ (eqb-false 13 0 refl) (p12 .1) in
+      let p14 = firstOf-zero 14 (found (firstLateFP queues periods loads)) _ (eqb-false 14 0 refl) (p13 .1) in
       let long = found-none (firstLong queues periods) (p10 .0) in
-      let some : 1 ≤ length queues = native.Mathlib.Nat.pos-of-ne-zero (eqb-false (length queues) 0 (p7 .0)) in (
+      let some : 1 ≤ length queues = pos-of-ne-zero (eqb-false (length queues) 0 (p7 .0)) in (
         some,
         record {
           shared = (

@@ -33,3 +33,9 @@ firstOf-past k test rest h = rw h
 pub firstOf-none : firstOf [] ≡ 0
 unfolding firstOf
 firstOf-none = refl
+
+-- where nothing is refused, no test of a refusal holds
+pub firstOf-zero : (k : ℕ) (test : Bool) (rest : List (ℕ × Bool)) → k ≢ 0 → firstOf ((k, test) ∷ rest) ≡ 0 → (test ≡ false) × (firstOf rest ≡ 0)
+unfolding firstOf
+firstOf-zero k true rest ne e = absurd (ne e)
+firstOf-zero k false rest ne e = (refl, e)
