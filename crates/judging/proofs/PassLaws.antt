@@ -9,7 +9,7 @@ use native.Mathlib.Nat.{le-trans, pos-of-ne-zero}
 use native.Mathlib.Omega.{arith}
 use lib.Dec.{eqb, ltb}
 use lib.ListN.{length}
-use borrow.Author.Tests.{ltb-false, le-ltb, eqb-true, eq-eqb, ne-eqb, eqb-false}
+use borrow.Author.Tests.{ltb-true, ltb-false, le-ltb, eqb-true, eq-eqb, ne-eqb, eqb-false}
 use contract.Lifetimes.{Lfts}
 use borrow.Fn.Kinds.{Dens, resT, endedOf}
 use denote.Triple.Clauses.{AtExit}
@@ -43,8 +43,8 @@ use Rattle.judging.specs.Verdicts.{
 use Rattle.judging.specs.declared.Outcome.{Outcome}
 use Rattle.judging.specs.Passes.{AllFive, Passes}
 use Rattle.judging.proofs.PeriodLaws.{shared-least}
-use Rattle.judging.proofs.FirstLaws.{first-none, none-first, found-none}
-use Rattle.judging.proofs.DemandLaws.{decided-yes, yes-decided}
+use Rattle.judging.proofs.FirstLaws.{first-none, none-first, first-found, found-none}
+use Rattle.judging.proofs.DemandLaws.{decided-yes, yes-decided, no-decided}
 use Rattle.judging.proofs.ColumnLaws.{queues-length, columns-range}
 use Rattle.judging.proofs.VerdictLaws.{shared-common, outcome-0}
 use Rattle.judging.proofs.judge.judge.Kinds as judge-kinds
@@ -55,6 +55,11 @@ gate-open : (a b : Bool) → (a && not b) ≡ false → a ≡ true → b ≡ tru
 gate-open true true h e = refl
 gate-open true false h e = let z : _≡_ {A = ℕ} 0 1 = cc in absurd (omega arith)
 gate-open false b h e = let z : _≡_ {A = ℕ} 0 1 = cc in absurd (omega arith)
+
+gate-both : (a b : Bool) → (a && not b) ≡ true → (a ≡ true) × (b ≡ false)
+gate-both true true h = let z : _≡_ {A = ℕ} 0 1 = cc in absurd (omega arith)
+gate-both true false h = (refl, refl)
+gate-both false b h = let z : _≡_ {A = ℕ} 0 1 = cc in absurd (omega arith)
 
 gate-shut : (a b : Bool) → (a ≡ true → b ≡ true) → (a && not b) ≡ false
 gate-shut true b h = rw (h refl)
@@ -121,6 +126,48 @@ module _ (queues periods loads : List ℕ) (r : InRange queues periods loads) wh
       (λ i l.
       gate-shut (eqb (at queues i) 3) _
       (λ q. decided-yes (timeUpTo (demandFP periods loads i) (at periods i)) (f .timesFP i l (eqb-true (at queues i) 3 q)))))
+
+-- the task that 13 or 14 names is the first that has no time; the one that 10 names is the first at which the shared period is above 10^12
+module _ (queues periods loads : List ℕ) where
+  pub names-dp2 : (i : ℕ) → firstLateDP2 queues periods loads ≡ At i
+      → (i < length queues) × (at queues i ≡ 2) × (TimeUpTo (demandDP2 queues periods loads (at periods i)) (at periods i) → ⊥)
+      × ((j : ℕ) → j < i → at queues j ≡ 2 → TimeUpTo (demandDP2 queues periods loads (at periods j)) (at periods j))
+  unfolding firstLateDP2 lateDP2
+  names-dp2 i e =
+      let f = first-found (lateDP2 queues periods loads) (length queues) i e in
+      let g = gate-both (eqb (at queues i) 2) _ (f .1) in (
+        f .0,
+        eqb-true (at queues i) 2 (g .0),
+        no-decided (timeUpTo (demandDP2 queues periods loads (at periods i)) (at periods i)) (g .1),
+        λ j h q.
+            yes-decided (timeUpTo (demandDP2 queues periods loads (at periods j)) (at periods j))
+            (gate-open (eqb (at queues j) 2) _ (f .2 j h) (eq-eqb (at queues j) 2 q)),
+      )
+
+  pub names-fp : (i : ℕ) → firstLateFP queues periods loads ≡ At i
+      → (i < length queues) × (at queues i ≡ 3) × (TimeUpTo (demandFP periods loads i) (at periods i) → ⊥)
+      × ((j : ℕ) → j < i → at queues j ≡ 3 → TimeUpTo (demandFP periods loads j) (at periods j))
+  unfolding firstLateFP lateFP
+  names-fp i e =
+      let f = first-found (lateFP queues periods loads) (length queues) i e in
+      let g = gate-both (eqb (at queues i) 3) _ (f .1) in (
+        f .0,
+        eqb-true (at queues i) 3 (g .0),
+        no-decided (timeUpTo (demandFP periods loads i) (at periods i)) (g .1),
+        λ j h q.
+            yes-decided (timeUpTo (demandFP periods loads j) (at periods j)) (gate-open (eqb (at queues j) 3) _ (f .2 j h) (eq-eqb (at queues j) 3 q)),
+      )
+
+  pub names-long : (i : ℕ) → firstLong queues periods ≡ At i
+      → (i < length queues) × (1000000000000 < sharedPeriod queues periods (suc i))
+      × ((j : ℕ) → j < i → sharedPeriod queues periods (suc j) ≤ 1000000000000)
+  unfolding firstLong tooLong
+  names-long i e =
+      let f = first-found (tooLong queues periods) (length queues) i e in (
+        f .0,
+        ltb-true 1000000000000 (sharedPeriod queues periods (suc i)) (f .1),
+        λ j h. ltb-false 1000000000000 (sharedPeriod queues periods (suc j)) (f .2 j h),
+      )
 
 -- demand 2: the verdict of a table that may be loaded is 0 exactly if all five tests pass
 pub passes-exactly : (tasks : List Task) (sems : List Sem) (board : Board) (present : Bool) → WellFormed tasks sems board present
