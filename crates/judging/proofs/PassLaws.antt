@@ -1,13 +1,13 @@
 -- The verdict is 0 exactly if all five tests pass, and the contract of judging allows one verdict only.
 -- Assumes nothing.
-use Prim.Native.Nat.{ℕ, zero, suc, _+_, _≤_, _<_}
+use Prim.Native.Nat.{ℕ, suc, _≤_, _<_}
 use mathlib.Core.Path.{_≡_, refl, sym, ap, _∙_}
 use mathlib.Core.Logic.{_↔_}
-use mathlib.Core.Bool.{Bool, true, false, cond, not, _&&_}
-use mathlib.Core.List.{List, [], _∷_}
+use mathlib.Core.Bool.{Bool, true, false, not, _&&_}
+use mathlib.Core.List.{List}
 use native.Mathlib.Nat.{le-trans, pos-of-ne-zero}
 use native.Mathlib.Omega.{arith}
-use lib.Dec.{eqb, ltb}
+use lib.Dec.{eqb}
 use lib.ListN.{length}
 use borrow.Author.Tests.{ltb-true, ltb-false, le-ltb, eqb-true, eq-eqb, ne-eqb, eqb-false}
 use contract.Lifetimes.{Lfts}
@@ -16,13 +16,11 @@ use denote.Triple.Clauses.{AtExit}
 use Rattle.table.specs.declared.Board.{Board}
 use Rattle.table.specs.declared.Task.{Task}
 use Rattle.table.specs.declared.Sem.{Sem}
-use Rattle.table.specs.declared.Found.{Found}
 use Rattle.table.specs.declared.Found.the-variants.{At, Nothing}
-use Rattle.table.specs.Refusals.{firstOf}
 use Rattle.table.specs.WellFormed.{WellFormed}
 use Rattle.table.proofs.RefusalLaws.{firstOf-zero}
-use Rattle.judging.specs.Periods.{at, sharedPeriod, IsSharedPeriod, tooLong, fractions, aboveOne, overFull}
-use Rattle.judging.specs.Demands.{demandDP2, demandFP, TimeUpTo, timeUpTo, decided}
+use Rattle.judging.specs.Periods.{at, sharedPeriod, tooLong, aboveOne, overFull}
+use Rattle.judging.specs.Demands.{demandDP2, demandFP, TimeUpTo, timeUpTo}
 use Rattle.judging.specs.Ranges.{InRange}
 use Rattle.judging.specs.Verdicts.{
   found,

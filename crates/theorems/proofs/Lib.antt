@@ -1,1 +1,2 @@
+-- The proofs of what the statements say.
 pub mod CaseLaws
