@@ -34,7 +34,7 @@ use native.Mathlib.Numerals.{add-one}
 use native.Mathlib.Omega.{arith}
 use lib.Dec.{eqb, leb, ltb}
 use borrow.Author.Tests.{eqb-true, eqb-false, leb-true, leb-false, le-leb, lt-leb, lt-ltb, le-ltb, ne-eqb}
-use Rattle.judging.specs.Periods.{at, gcdIn, gcdOf, lcmOf, sharedPeriod, SharedPeriod, tooLong}
+use Rattle.judging.specs.Periods.{at, gcdIn, gcdOf, lcmOf, sharedPeriod, IsSharedPeriod, tooLong}
 
 -- more steps than are needed change nothing
 same-steps : (f g a b : ℕ) → b < f → b < g → gcdIn f a b ≡ gcdIn g a b
@@ -188,7 +188,7 @@ module _ (queues periods : List ℕ) where
       run-on (leb (at queues i) 2) i (sharedPeriod queues periods i) refl (pos i (omega arith)) (running i (λ j h. pos j (omega arith)))
 
   -- the computed shared period is the least positive common multiple of the periods of the DP tasks
-  pub shared-least : (i : ℕ) → ((j : ℕ) → j < i → 0 < at periods j) → SharedPeriod queues periods i (sharedPeriod queues periods i)
+  pub shared-least : (i : ℕ) → ((j : ℕ) → j < i → 0 < at periods j) → IsSharedPeriod queues periods i (sharedPeriod queues periods i)
   shared-least i pos =
       let r = running i pos in
       record { positive = r .positive; common = r .common; least = λ c k m. le-of-dvd k (r .divides c m) }

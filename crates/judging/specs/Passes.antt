@@ -5,14 +5,14 @@ use mathlib.Core.List.{List}
 use lib.ListN.{length}
 use Rattle.table.specs.declared.Board.{Board}
 use Rattle.table.specs.declared.Task.{Task}
-use Rattle.judging.specs.Periods.{at, SharedPeriod, fractions}
+use Rattle.judging.specs.Periods.{at, IsSharedPeriod, fractions}
 use Rattle.judging.specs.Demands.{demandDP2, demandFP, TimeUpTo}
 use Rattle.judging.specs.Verdicts.{queuesOf, periodsOf, loadsOf}
 
 -- the five tests, of the tasks' queues, periods and loads
 pub record AllFive (queues periods loads : List ℕ) : Type 0 where
   -- 10: the shared period of the DP tasks, their least positive common multiple, is at most 10^12
-  pub shared : (h : ℕ) × SharedPeriod queues periods (length queues) h × (h ≤ 1000000000000)
+  pub shared : (h : ℕ) × IsSharedPeriod queues periods (length queues) h × (h ≤ 1000000000000)
   -- 11 and 12: the sum of load/period, exactly, is at most 1, for DP1 and for both
   pub dp1 : fractions queues periods loads 1 (length queues) .0 ≤ fractions queues periods loads 1 (length queues) .1
   pub dp : fractions queues periods loads 2 (length queues) .0 ≤ fractions queues periods loads 2 (length queues) .1

@@ -28,7 +28,7 @@ sharedPeriod queues periods (suc i) =
     cond (leb (at queues i) 2) (lcmOf (sharedPeriod queues periods i) (at periods i)) (sharedPeriod queues periods i)
 
 -- what such a number is, whichever way it is computed: positive, a multiple of each period, and the least of these (`shared-least`)
-pub record SharedPeriod (queues periods : List ℕ) (tasks h : ℕ) : Type 0 where
+pub record IsSharedPeriod (queues periods : List ℕ) (tasks h : ℕ) : Type 0 where
   pub positive : 1 ≤ h
   pub common : (j : ℕ) → j < tasks → at queues j ≤ 2 → at periods j ∣ h
   pub least : (c : ℕ) → 1 ≤ c → ((j : ℕ) → j < tasks → at queues j ≤ 2 → at periods j ∣ c) → h ≤ c

@@ -16,7 +16,7 @@ use Rattle.judging.specs.declared.Shared.{Shared}
 use Rattle.judging.specs.declared.Shared.the-variants.{Above, Within}
 use Rattle.judging.specs.declared.Verdict.{Verdict}
 use Rattle.judging.specs.Periods.{at, sharedPeriod, tooLong, overFull}
-use Rattle.judging.specs.Demands.{demandDP2, demandFP, timeUpTo, decided}
+use Rattle.judging.specs.Demands.{demandFP, timeUpTo, decided, hasTime}
 
 -- the first place of two
 unfoldable pub orElse : Found → Found → Found
@@ -48,7 +48,7 @@ sharedOf queues periods = sharedBy (firstLong queues periods) (sharedPeriod queu
 -- 13: a DP2 task has no time
 unfoldable pub lateDP2 : List ℕ → List ℕ → List ℕ → ℕ → Bool
 lateDP2 queues periods loads i =
-    eqb (at queues i) 2 && not (decided (timeUpTo (demandDP2 queues periods loads (at periods i)) (at periods i)))
+    eqb (at queues i) 2 && not (hasTime queues periods loads (at periods i))
 
 -- 14: an FP task has no time
 unfoldable pub lateFP : List ℕ → List ℕ → List ℕ → ℕ → Bool

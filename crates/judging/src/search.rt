@@ -1,7 +1,6 @@
 // Tests 13 and 14: the search for a time.
 ghost use mathlib.Core.Path.{_≡_};
-ghost use Prim.Native.Nat.{ℕ, _≤_, _<_};
-ghost use lib.ListN.{length};
+ghost use Prim.Native.Nat.{_≤_, _<_};
 ghost use Rattle.judging.specs.Periods.{at};
 ghost use Rattle.judging.specs.Demands.{counted, demandDP2, hasTime};
 ghost use Rattle.judging.specs.Ranges.{PeriodsInRange, InRange};

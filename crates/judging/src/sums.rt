@@ -1,8 +1,8 @@
 // Tests 10, 11 and 12: the shared period of the DP tasks, and the sums of load/period.
 ghost use mathlib.Core.Path.{_≡_};
-ghost use Prim.Native.Nat.{ℕ, _≤_, _<_, _∣_};
+ghost use Prim.Native.Nat.{_<_};
 ghost use lib.ListN.{length};
-ghost use Rattle.judging.specs.Periods.{at, gcdOf, overFull};
+ghost use Rattle.judging.specs.Periods.{gcdOf, overFull};
 ghost use Rattle.judging.specs.Ranges.{PeriodsInRange, InRange, Common};
 ghost use Rattle.judging.specs.Verdicts.{sharedOf};
 use crate::Shared;

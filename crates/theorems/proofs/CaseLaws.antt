@@ -1,18 +1,15 @@
 -- Every row of the table of cases holds: each is decided by computation, and the decision is proved right once, for all rows.
 -- Assumes nothing.
-use Prim.Native.Nat.{ℕ, zero, suc, _≤_, _<_}
+use Prim.Native.Nat.{ℕ}
 use mathlib.Core.Path.{_≡_, refl, sym, ap, _∙_}
-use mathlib.Core.Bool.{Bool, true, false, cond, _&&_}
+use mathlib.Core.Bool.{Bool, true, false, _&&_}
 use mathlib.Core.List.{List, [], _∷_, map}
-use native.Mathlib.Nat.{not-suc-le-zero}
 use native.Mathlib.Omega.{arith}
 use lib.Dec.{eqb, ltb}
-use lib.ListN.{length, getD}
 use borrow.Author.Tests.{eqb-true, ltb-true}
 use Rattle.table.specs.declared.Board.{Board}
 use Rattle.table.specs.declared.Task.{Task}
-use Rattle.table.specs.declared.Found.the-variants.{At, Nothing}
-use Rattle.table.specs.Entries.{builtIn, blankTask}
+use Rattle.table.specs.Entries.{builtIn}
 use Rattle.table.specs.Refusals.{firstOf}
 use Rattle.table.specs.Sums.{sumOf, countOf, every}
 use Rattle.table.proofs.SumLaws.{both-left, both-right, every-at}
@@ -31,25 +28,12 @@ use Rattle.charges.specs.Charges.{
   loadOf,
 }
 use Rattle.judging.specs.declared.Verdict.{Verdict}
-use Rattle.judging.specs.declared.Outcome.{Outcome}
 use Rattle.judging.specs.Periods.{at, plus, fractions, aboveOne, overFull}
 use Rattle.judging.specs.Demands.{sumTo, ceil, star, counted, demandDP2, demandFP}
-use Rattle.judging.specs.Verdicts.{
-  orElse,
-  firstBelow,
-  found,
-  outcomeAt,
-  outcomeOf,
-  queuesOf,
-  periodsOf,
-  loadsOf,
-  nameOf,
-  named,
-  verdictOf,
-}
+use Rattle.judging.specs.Verdicts.{orElse, firstBelow, found, queuesOf, periodsOf, loadsOf, nameOf, named, verdictOf}
 use Rattle.judging.proofs.ColumnLaws.{queues-length, periods-length}
 use Rattle.judging.proofs.FixedLaws.{forced, forcedList, forced-list, gcdForced, lcmForced, longFrom, fixedFrom, fixedUpTo, fixedDP2, fixedFP, fixedOutcome, fixed-outcome}
-use Rattle.theorems.specs.Cases.{Case, judged, Holds, task, workload, cases, All}
+use Rattle.theorems.specs.Cases.{Case, judged, Holds, task, cases, All}
 
 -- two lists of numbers are equal
 same : List ℕ → List ℕ → Bool

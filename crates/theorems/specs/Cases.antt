@@ -8,7 +8,6 @@ use Rattle.table.specs.declared.Task.{Task}
 use Rattle.table.specs.declared.Status.the-variants.{Idle}
 use Rattle.table.specs.Entries.{builtIn, noFigures}
 use Rattle.charges.specs.Charges.{chargeOf}
-use Rattle.judging.specs.declared.Verdict.{Verdict}
 use Rattle.judging.specs.Verdicts.{verdictOf}
 
 -- a row of the table: tasks and figures; the charge of each task, the verdict's number and the task that it names

@@ -1,14 +1,14 @@
 -- `charges::Counts::of` meets its contract: the loop counts each queue among the tasks passed; no count is above their number.
 -- Assumes nothing.
-use Prim.Native.Nat.{ℕ, _+_, _-_, _≤_, _<_}
-use mathlib.Core.Path.{_≡_, refl, sym, ap, _∙_}
+use Prim.Native.Nat.{ℕ, _-_, _≤_, _<_}
+use mathlib.Core.Path.{_≡_, sym, ap, _∙_}
 use native.Mathlib.Omega.{arith}
 use borrow.Author.Needs.{needs}
 use lib.ListN.{length, take}
 use Rattle.table.specs.Sums.{countOf, sumOf}
 use lib.Seq.{length-take-le}
 use Rattle.table.specs.Entries.{blankTask}
-use Rattle.charges.specs.Charges.{tasksIn, countsOf}
+use Rattle.charges.specs.Charges.{tasksIn}
 use Rattle.charges.proofs.ChargeLaws.{tasksIn-more, counts-made}
 use Rattle.charges.proofs.Counts.of.Statement.{statement}
 use Rattle.charges.proofs.Counts.of.Tie as tie

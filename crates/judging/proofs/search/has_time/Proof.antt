@@ -1,7 +1,7 @@
 -- `judging::search::has_time` meets its contract: no time up to t is enough; between t and the next time to try every count stands still.
 -- Assumes nothing.
 use Prim.Native.Nat.{ℕ, _-_, _≤_, _<_}
-use mathlib.Core.Path.{_≡_, sym}
+use mathlib.Core.Path.{sym}
 use mathlib.Core.Logic.{_⊎_, ⊎-elim}
 use native.Mathlib.Omega.{arith}
 use Rattle.judging.specs.Demands.{demandDP2}
