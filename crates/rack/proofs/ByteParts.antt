@@ -47,8 +47,8 @@ part-long answer running s = refl
 -- what is left of a run of one byte
 drop-replicate : (at n b : ℕ) → drop at (replicate n b) ≡ replicate (n - at) b
 drop-replicate zero n b = ap (λ (k : ℕ). replicate k b) (sym (sub-zero n))
-drop-replicate (suc at) zero b = refl
-drop-replicate (suc at) (suc n) b = drop-replicate at n b ∙ ap (λ (k : ℕ). replicate k b) (omega arith)
+drop-replicate (suc at) zero b = let e : 0 - suc at ≡ 0 = omega arith in rw e
+drop-replicate (suc at) (suc n) b = let e : n - at ≡ suc n - suc at = omega arith in rw (← e) (drop-replicate at n b)
 
 pub rest-same : (at n b : ℕ) → at ≤ n → take (n - at) (drop at (replicate n b)) ≡ replicate (n - at) b
 rest-same at n b h =
