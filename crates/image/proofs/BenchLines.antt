@@ -14,7 +14,7 @@ use Rattle.table.specs.Sums.{any}
 use Rattle.table.specs.WellFormed.{within, taskInRange, boardInRange, taskBefore, used}
 use Rattle.fields.specs.Fields.{valueOf, bytesOf, readAt, allAre}
 use Rattle.records.specs.Records.{taskIn, boardIn, semIn, unlessOutOfRange, taskDecoded, boardDecoded, semDecoded, decoded, encodeTask, encodeBoard}
-use Rattle.image.specs.Loading.{Table, freshTable, taken, startFront, frontAfter, usedAfter, refusedAs, orderBroken, numberTwice, tooMany, refusalOf, stateOf, refusedLoad, acceptedLoad, finishedLoad, loadFrom, recordsIn, badLength, loadOf}
+use Rattle.image.specs.Loading.{Table, freshTable, taken, startFront, frontAfter, usedAfter, refusedAs, orderBroken, numberTwice, tooMany, refusalOf, stateOf, refusedLoad, acceptedLoad, finishedLoad, loadFrom, recordsIn, badLength, loadRecords, loadOf}
 use Rattle.image.proofs.LoadLaws.{load-bad}
 
 -- a good task, with number 7, period 2,000 and cost 1,000 in DP1
@@ -26,7 +26,7 @@ abbrev erasedRun : ℕ → List ℕ
 erasedRun n = replicate n 255
 
 pub length-0 : loadOf [] ≡ refusedLoad 7 0
-unfolding loadOf badLength recordsIn loadFrom freshTable finishedLoad stateOf firstOf answered
+unfolding loadOf loadRecords badLength recordsIn loadFrom freshTable finishedLoad stateOf firstOf answered
 length-0 = refl
 
 pub length-33 : (image : List ℕ) → length image ≡ 33 → loadOf image ≡ refusedLoad 1 0
@@ -34,13 +34,13 @@ unfolding badLength
 length-33 image h = load-bad image (ap badLength h)
 
 pub all-erased-64 : loadOf (erasedRun 64) ≡ refusedLoad 7 2
-unfolding loadOf badLength recordsIn loadFrom freshTable startFront frontAfter taken finishedLoad stateOf firstOf answered decoded allAre refusalOf usedAfter refusedAs orderBroken numberTwice tooMany
+unfolding loadOf loadRecords badLength recordsIn loadFrom freshTable startFront frontAfter taken finishedLoad stateOf firstOf answered decoded allAre refusalOf usedAfter refusedAs orderBroken numberTwice tooMany
 all-erased-64 = refl
 
 pub erased-then-board : loadOf (encodeTask goodTask ++ (erasedRun 32 ++ encodeBoard noFigures)) ≡ refusedLoad 3 2
-unfolding loadOf badLength recordsIn loadFrom freshTable startFront frontAfter taken finishedLoad stateOf firstOf answered decoded allAre refusalOf usedAfter refusedAs orderBroken numberTwice tooMany encodeTask encodeBoard bytesOf taskDecoded boardDecoded unlessOutOfRange taskIn boardIn readAt valueOf taskInRange boardInRange within used any
+unfolding loadOf loadRecords badLength recordsIn loadFrom freshTable startFront frontAfter taken finishedLoad stateOf firstOf answered decoded allAre refusalOf usedAfter refusedAs orderBroken numberTwice tooMany encodeTask encodeBoard bytesOf taskDecoded boardDecoded unlessOutOfRange taskIn boardIn readAt valueOf taskInRange boardInRange within used any
 erased-then-board = refl
 
 pub one-task : loadOf (encodeTask goodTask ++ erasedRun 32) ≡ acceptedLoad (stateOf (record { tasks = goodTask ∷ []; sems = []; board = builtIn; present = false }))
-unfolding loadOf badLength recordsIn loadFrom freshTable startFront frontAfter taken finishedLoad stateOf firstOf answered decoded allAre refusalOf usedAfter refusedAs orderBroken numberTwice tooMany encodeTask bytesOf taskDecoded unlessOutOfRange taskIn readAt valueOf taskInRange within used any
+unfolding loadOf loadRecords badLength recordsIn loadFrom freshTable startFront frontAfter taken finishedLoad stateOf firstOf answered decoded allAre refusalOf usedAfter refusedAs orderBroken numberTwice tooMany encodeTask bytesOf taskDecoded unlessOutOfRange taskIn readAt valueOf taskInRange within used any
 one-task = refl

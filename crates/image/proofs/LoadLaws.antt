@@ -28,7 +28,7 @@ use Rattle.records.specs.declared.Decoded.the-variants.{Erased, TaskRecord, Boa
 use Rattle.records.specs.Records.{decoded}
 use Rattle.image.specs.declared.load.Front.{Front}
 use Rattle.image.specs.declared.load.Loaded.{Loaded}
-use Rattle.image.specs.Loading.{Table, freshTable, taken, startFront, frontAfter, refusalOf, usedAfter, refusedAs, orderBroken, numberTwice, tooMany, stateOf, refusedLoad, acceptedLoad, finishedLoad, loadFrom, recordsIn, badLength, loadOf}
+use Rattle.image.specs.Loading.{Table, freshTable, taken, startFront, frontAfter, refusalOf, usedAfter, refusedAs, orderBroken, numberTwice, tooMany, stateOf, refusedLoad, acceptedLoad, finishedLoad, loadFrom, recordsIn, badLength, loadRecords, loadOf}
 
 -- a record that is refused ends the load, and one that is not goes into the table
 pub load-stop : (t : Table) (f : Front) (at : ℕ) (r : List ℕ) (rest : List (List ℕ))
@@ -170,10 +170,6 @@ numbers-used tasks k e number =
     let n : length ns ≡ k = length-map tasks (λ t. t .number) ∙ sym e in
     ap (any (λ x. eqb x number)) (take-at ns (replicate (64 - length tasks) 0) k n) ∙ any-map (λ t. t .number) (λ x. eqb x number) tasks
 
--- the load of a whole image, once its length is right
-abbrev pub whole : List ℕ → Loaded
-whole image = loadFrom freshTable startFront 0 (recordsIn (length image / 32) image)
-
 -- the front counts what the table has, and the table fits
 pub record Keeps (front : Front) (table : Table) : Type 0 where
   pub tasksCounted : front .n ≡ length (table .tasks)
@@ -204,10 +200,10 @@ pub record Come (image : List ℕ) (state : State) (given : List ℕ) (front : F
   pub same : state ≡ stateOf table
   pub numbers : given ≡ numbersOf (table .tasks)
   pub keeps : Keeps front table
-  pub goes : loadFrom table front place (recordsIn ((length image - at) / 32) (drop at image)) ≡ whole image
+  pub goes : loadFrom table front place (recordsIn ((length image - at) / 32) (drop at image)) ≡ loadRecords image
 
 pub come-start : (image : List ℕ) (state : State) (front : Front) → state ≡ freshState → front ≡ startFront → Come image state (replicate 64 0) front 0
-unfolding freshState freshTable startFront stateOf
+unfolding freshState freshTable startFront stateOf loadRecords
 come-start image state front s f =
     record {
       table = freshTable;
@@ -255,12 +251,12 @@ module _ (image : List ℕ) (state : State) (given : List ℕ) (front : Front) (
   judged-so : number ≡ refusalOf front (λ k. used k (c .table .tasks)) d
   judged-so = judged ∙ ap (λ (t : ℕ → Bool). refusalOf front t d) (front-test (c .table .tasks) given (state .n) (c .numbers) counted)
 
-  split : loadFrom (c .table) front (c .place) (take (at + 32 - at) (drop at image) ∷ recordsIn ((length image - (at + 32)) / 32) (drop (at + 32) image)) ≡ whole image
+  split : loadFrom (c .table) front (c .place) (take (at + 32 - at) (drop at image) ∷ recordsIn ((length image - (at + 32)) / 32) (drop (at + 32) image)) ≡ loadRecords image
   split =
       let aligned : at % 32 ≡ 0 = omega (arith, c .here) in
       ap (loadFrom (c .table) front (c .place)) (sym (next-record image at fits aligned inside)) ∙ c .goes
 
-  pub come-refused : number ≢ 0 → refusedLoad number (at / 32) ≡ whole image
+  pub come-refused : number ≢ 0 → refusedLoad number (at / 32) ≡ loadRecords image
   come-refused h =
       let r = take (at + 32 - at) (drop at image) in
       let so : number ≡ refusalOf front (λ k. used k (c .table .tasks)) (decoded r) = judged-so ∙ ap (refusalOf front (λ k. used k (c .table .tasks))) e in
@@ -346,7 +342,7 @@ module _ (image : List ℕ) (state : State) (given : List ℕ) (front : Front) (
 
 -- at the end of the image the state so far is what is handed back
 pub come-end : {image : List ℕ} {state : State} {given : List ℕ} {front : Front} {at : ℕ} (c : Come image state given front at) → length image ≤ at
-    → finishedLoad state (at / 32) ≡ whole image
+    → finishedLoad state (at / 32) ≡ loadRecords image
 unfolding loadFrom recordsIn
 come-end {image} {state} {given} {front} {at} c h =
     let none : (length image - at) / 32 ≡ 0 = omega arith in
@@ -370,13 +366,13 @@ length-numbers tasks h =
 pub load-bad : (image : List ℕ) → badLength (length image) ≡ true → loadOf image ≡ refusedLoad 1 0
 unfolding loadOf
 load-bad image h =
-    ap (λ (k : ℕ). answered k (λ k. refusedLoad k 0) (whole image)) (firstOf-here 1 (badLength (length image)) [] h)
-    ∙ answered-refused 1 (λ k. refusedLoad k 0) (whole image) (λ e. omega arith)
+    ap (λ (k : ℕ). answered k (λ k. refusedLoad k 0) (loadRecords image)) (firstOf-here 1 (badLength (length image)) [] h)
+    ∙ answered-refused 1 (λ k. refusedLoad k 0) (loadRecords image) (λ e. omega arith)
 
-pub load-good : (image : List ℕ) → badLength (length image) ≡ false → loadOf image ≡ whole image
+pub load-good : (image : List ℕ) → badLength (length image) ≡ false → loadOf image ≡ loadRecords image
 unfolding loadOf
 load-good image h =
-    answered-done (firstOf ((1, badLength (length image)) ∷ [])) (λ k. refusedLoad k 0) (whole image)
+    answered-done (firstOf ((1, badLength (length image)) ∷ [])) (λ k. refusedLoad k 0) (loadRecords image)
     (firstOf-past 1 (badLength (length image)) [] h ∙ firstOf-none)
 
 -- the lengths that are bad, and those that are not
