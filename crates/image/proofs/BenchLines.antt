@@ -11,10 +11,10 @@ use Rattle.table.specs.declared.Status.the-variants.{Idle}
 use Rattle.table.specs.Entries.{builtIn, noFigures}
 use Rattle.table.specs.Refusals.{firstOf, answered}
 use Rattle.table.specs.Sums.{any}
-use Rattle.table.specs.WellFormed.{within, taskInRange, boardInRange, taskBefore, used}
+use Rattle.table.specs.WellFormed.{within, taskInRange, boardInRange, used}
 use Rattle.fields.specs.Fields.{valueOf, bytesOf, readAt, allAre}
-use Rattle.records.specs.Records.{taskIn, boardIn, semIn, unlessOutOfRange, taskDecoded, boardDecoded, semDecoded, decoded, encodeTask, encodeBoard}
-use Rattle.image.specs.Loading.{Table, freshTable, taken, startFront, frontAfter, usedAfter, refusedAs, orderBroken, numberTwice, tooMany, refusalOf, stateOf, refusedLoad, acceptedLoad, finishedLoad, loadFrom, recordsIn, badLength, loadRecords, loadOf}
+use Rattle.records.specs.Records.{taskIn, boardIn, unlessOutOfRange, taskDecoded, boardDecoded, decoded, encodeTask, encodeBoard}
+use Rattle.image.specs.Loading.{freshTable, taken, startFront, frontAfter, usedAfter, refusedAs, orderBroken, numberTwice, tooMany, refusalOf, stateOf, refusedLoad, acceptedLoad, finishedLoad, loadFrom, recordsIn, badLength, loadRecords, loadOf}
 use Rattle.image.proofs.LoadLaws.{load-bad}
 
 -- a good task, with number 7, period 2,000 and cost 1,000 in DP1

@@ -7,20 +7,20 @@
 --     loaded-sound                      the state that loading hands back is sound
 --     refused-empty                     a refused load hands back the empty state
 -- Assumes nothing.
-use Prim.Native.Nat.{ℕ, suc, _+_, _-_, _*_, _/_, _%_, _≤_, _<_}
+use Prim.Native.Nat.{ℕ, suc, _+_, _-_, _*_, _/_, _%_, _≤_}
 use mathlib.Core.Path.{_≡_, refl, sym, ap, _∙_, subst}
 use mathlib.Core.Logic.{_≢_, _⊎_, inl, inr}
-use mathlib.Core.Bool.{Bool, true, false, cond, not, _||_}
+use mathlib.Core.Bool.{Bool, true, false, cond, not}
 use mathlib.Core.List.{List, [], _∷_, _++_, append-assoc, append-nil}
 use native.Mathlib.Omega.{arith}
 use lib.Dec.{eqb, ltb}
 use lib.ListN.{length, replicate, length-append, length-replicate, replicate-append-replicate}
-use borrow.Author.Tests.{eqb-true, eqb-false, eq-eqb, ltb-false, not-false}
+use borrow.Author.Tests.{eqb-true, eqb-false, ltb-false, not-false}
 use Rattle.table.specs.WellFormed.{WellFormed, used}
 use Rattle.table.proofs.RefusalLaws.{firstOf-zero}
 use Rattle.executive.specs.declared.state.State.{State}
 use Rattle.executive.specs.States.{tasksOf, semsOf, emptyState}
-use Rattle.executive.specs.Sound.{Sized, Sound}
+use Rattle.executive.specs.Sound.{Sound}
 use Rattle.records.specs.Records.{Bytes, decoded}
 use Rattle.image.specs.declared.load.Front.{Front}
 use Rattle.image.specs.declared.load.Loaded.{Loaded}
@@ -31,7 +31,7 @@ use Rattle.image.proofs.LoadLaws.{load-bad, load-good, load-stop, load-
 use Rattle.image.proofs.WriteLaws.{length-table, write-good, buffer-right}
 use Rattle.image.proofs.GrowLaws.{growing-start, growing-well, neither}
 use Rattle.image.proofs.ReplayLaws.{erasedBytes, replayed, Ended, ended-of, finished-none, finished-some}
-use Rattle.image.proofs.LoadedLaws.{loadedTable, loaded-well, loaded-bytes, loaded-tasks, loaded-sems, state-tasks, state-sems, state-table, state-sound, empty-sound, as-loaded}
+use Rattle.image.proofs.LoadedLaws.{loadedTable, loaded-well, loaded-bytes, loaded-tasks, loaded-sems, state-table, state-sound, empty-sound, as-loaded}
 
 -- a length that is not bad
 length-good : (bytes : ℕ) → badLength bytes ≡ false → (bytes % 32 ≡ 0) × (bytes ≤ 4096)
