@@ -94,6 +94,19 @@ readAt-wider w v l at h =
     ∙ ap (λ (k : ℕ). valueOf (take w (drop at l)) + valueOf (take v (drop w (drop at l))) * 2 ^ (8 * k)) low
     ∙ ap (λ (m : List ℕ). valueOf (take w (drop at l)) + valueOf (take v m) * 2 ^ (8 * w)) (drop-drop w at l)
 
+-- a value that was read, as bytes before what stands behind them, is what stood there
+pub read-back : (l : List ℕ) (at w : ℕ) → at + w ≤ length l → ((i : ℕ) → i < length l → getD l i 0 < 256) → bytesOf w (readAt w l at) ++ drop (at + w) l ≡ drop at l
+unfolding readAt
+read-back l at w h bytes =
+    let part = take w (drop at l) in
+    let n : length part ≡ w = length-take-le w (drop at l) (rw (length-drop at l) (omega arith)) in
+    let same : bytesOf w (valueOf part) ≡ part =
+    ap (λ (k : ℕ). bytesOf k (valueOf part)) (sym n)
+    ∙ bytesOf-valueOf part
+    (λ i k. let inside : i < w = omega arith in rw (getD-take w (drop at l) i 0 inside, getD-drop at l i 0) (bytes (at + i) (omega arith))) in
+    ap (λ (m : List ℕ). m ++ drop (at + w) l) same
+    ∙ (ap (λ (m : List ℕ). part ++ m) (sym (drop-drop w at l)) ∙ take-append-drop w (drop at l))
+
 module _ (l : List ℕ) (at : ℕ) where
   -- what stands before, of a place inside
   front : at ≤ length l → length (take at l) ≡ at
@@ -159,17 +172,8 @@ module _ (l : List ℕ) (at : ℕ) where
 
   -- a value that was read, put back, gives the same bytes
   pub put-read : (w : ℕ) → at + w ≤ length l → ((i : ℕ) → i < length l → getD l i 0 < 256) → putAt w l at (readAt w l at) ≡ l
-  unfolding putAt readAt
-  put-read w h bytes =
-      let part = take w (drop at l) in
-      let n : length part ≡ w = length-take-le w (drop at l) (rw (length-drop at l) (omega arith)) in
-      let same : bytesOf w (valueOf part) ≡ part =
-      ap (λ (k : ℕ). bytesOf k (valueOf part)) (sym n)
-      ∙ bytesOf-valueOf part
-      (λ i k. let inside : i < w = omega arith in rw (getD-take w (drop at l) i 0 inside, getD-drop at l i 0) (bytes (at + i) (omega arith))) in
-      ap (λ (m : List ℕ). take at l ++ (m ++ drop (at + w) l)) same
-      ∙ (ap (λ (m : List ℕ). take at l ++ (part ++ m)) (sym (drop-drop w at l))
-      ∙ (ap (λ (m : List ℕ). take at l ++ m) (take-append-drop w (drop at l)) ∙ take-append-drop at l))
+  unfolding putAt
+  put-read w h bytes = ap (λ (m : List ℕ). take at l ++ m) (read-back l at w h bytes) ∙ take-append-drop at l
 
 -- a test of every byte: the byte at i is b and the rest decides, or it is not and the test fails; at the end it holds
 pub all-more : (b : ℕ) (l : List ℕ) (i : ℕ) → i < length l → getD l i 0 ≡ b → allAre b (drop i l) ≡ allAre b (drop (i + 1) l)

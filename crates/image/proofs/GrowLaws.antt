@@ -1,14 +1,14 @@
 -- The table that a load has read so far: it fits, its entries are in their ranges and in order, and the front says of it what the next
 -- record is judged by. A record that is not refused keeps all of this.
 -- Assumes nothing.
-use Prim.Native.Nat.{ℕ, zero, suc, _+_, _≤_, _<_}
-use mathlib.Core.Path.{_≡_, refl, sym, ap, _∙_, subst}
+use Prim.Native.Nat.{ℕ, _+_, _≤_}
+use mathlib.Core.Path.{_≡_, refl, sym, ap, _∙_}
 use mathlib.Core.Bool.{Bool, true, false, not, _&&_, _||_}
 use mathlib.Core.List.{List, [], _∷_, _++_, map, map-append}
 use native.Mathlib.Omega.{arith}
-use lib.Dec.{eqb, leb, eqb·suc-zero}
+use lib.Dec.{eqb, eqb·suc-zero}
 use lib.ListN.{length}
-use borrow.Author.Tests.{eqb-true, eqb-false, ne-eqb, eq-eqb, not-true, not-false, leb-false, lt-leb}
+use borrow.Author.Tests.{eqb-true, eqb-false, ne-eqb, not-true, not-false}
 use Rattle.table.specs.declared.Task.{Task}
 use Rattle.table.specs.declared.Sem.{Sem}
 use Rattle.table.specs.declared.Board.{Board}
@@ -18,12 +18,12 @@ use Rattle.table.specs.WellFormed.{taskInRange, semInRange, boardInRange, taskB
 use Rattle.table.proofs.SumLaws.{both, both-left, both-right, every-append, any-append}
 use Rattle.table.proofs.OrderLaws.{built-in-range}
 use Rattle.records.specs.declared.Decoded.{Decoded}
-use Rattle.records.specs.declared.Decoded.the-variants.{Erased, TaskRecord, BoardRecord, SemRecord, Refused}
+use Rattle.records.specs.declared.Decoded.the-variants.{Erased, TaskRecord, BoardRecord, SemRecord}
 use Rattle.records.specs.Records.{loadedTask, loadedSem}
 use Rattle.records.proofs.RecordLaws.{Said, erased, task, board, sem, unknown, bad}
 use Rattle.image.specs.declared.load.Front.{Front}
-use Rattle.image.specs.Loading.{Table, freshTable, taken, startFront, frontAfter, refusalOf, usedAfter, refusedAs, orderBroken, numberTwice, tooMany}
-use Rattle.image.proofs.LoadLaws.{Passed, passed, Keeps, keeps-on, length-more}
+use Rattle.image.specs.Loading.{Table, freshTable, taken, startFront, frontAfter, orderBroken, numberTwice}
+use Rattle.image.proofs.LoadLaws.{Passed, Keeps, keeps-on}
 
 -- both halves of a disjunction that does not hold
 pub neither : (a b : Bool) → (a || b) ≡ false → (a ≡ false) × (b ≡ false)

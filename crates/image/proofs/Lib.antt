@@ -5,3 +5,4 @@ pub mod GrowLaws
 pub mod ReplayLaws
 pub mod LoadedLaws
 pub mod RoundTrips
+pub mod BenchLines

@@ -1,16 +1,16 @@
 -- The laws of a load that has come to a place: what is left, from here, gives the whole answer.
 -- Assumes nothing.
-use Prim.Native.Nat.{ℕ, zero, suc, _+_, _-_, _*_, _/_, _%_, _≤_, _<_}
+use Prim.Native.Nat.{ℕ, suc, _+_, _-_, _*_, _/_, _%_, _≤_, _<_}
 use mathlib.Core.Path.{_≡_, refl, sym, ap, _∙_, subst}
 use mathlib.Core.Logic.{_≢_}
-use mathlib.Core.Bool.{Bool, true, false, cond, not, _||_}
-use mathlib.Core.List.{List, [], _∷_, _++_, map, append-assoc}
+use mathlib.Core.Bool.{Bool, true, false}
+use mathlib.Core.List.{List, [], _∷_, _++_, map}
 use native.Mathlib.Nat.{sub-zero}
 use native.Mathlib.Omega.{arith}
 use native.Mathlib.Numerals.{add-one}
-use lib.Dec.{eqb, leb}
-use lib.ListN.{length, getD, take, drop, set, replicate, length-append, length-drop, length-map, length-replicate}
-use lib.Seq.{drop-drop, set-append-seam, append-snoc, take-at, length-take-le}
+use lib.Dec.{eqb}
+use lib.ListN.{length, take, drop, set, replicate, length-append, length-map, length-replicate}
+use lib.Seq.{drop-drop, set-append-seam, append-snoc, take-at}
 use borrow.Author.Tests.{leb-false, eq-eqb, ne-eqb, lt-ltb, le-ltb}
 use Rattle.table.specs.declared.Task.{Task}
 use Rattle.table.specs.declared.Sem.{Sem}
@@ -27,8 +27,7 @@ use Rattle.records.specs.declared.Decoded.{Decoded}
 use Rattle.records.specs.declared.Decoded.the-variants.{Erased, TaskRecord, BoardRecord, SemRecord, Refused}
 use Rattle.records.specs.Records.{decoded}
 use Rattle.image.specs.declared.load.Front.{Front}
-use Rattle.image.specs.declared.load.Loaded.{Loaded}
-use Rattle.image.specs.Loading.{Table, freshTable, taken, startFront, frontAfter, refusalOf, usedAfter, refusedAs, orderBroken, numberTwice, tooMany, stateOf, refusedLoad, acceptedLoad, finishedLoad, loadFrom, recordsIn, badLength, loadOf}
+use Rattle.image.specs.Loading.{Table, freshTable, taken, startFront, frontAfter, refusalOf, usedAfter, refusedAs, orderBroken, numberTwice, tooMany, stateOf, refusedLoad, finishedLoad, loadFrom, recordsIn, badLength, loadRecords, loadOf}
 
 -- a record that is refused ends the load, and one that is not goes into the table
 pub load-stop : (t : Table) (f : Front) (at : ℕ) (r : List ℕ) (rest : List (List ℕ))
@@ -170,10 +169,6 @@ numbers-used tasks k e number =
     let n : length ns ≡ k = length-map tasks (λ t. t .number) ∙ sym e in
     ap (any (λ x. eqb x number)) (take-at ns (replicate (64 - length tasks) 0) k n) ∙ any-map (λ t. t .number) (λ x. eqb x number) tasks
 
--- the load of a whole image, once its length is right
-abbrev pub whole : List ℕ → Loaded
-whole image = loadFrom freshTable startFront 0 (recordsIn (length image / 32) image)
-
 -- the front counts what the table has, and the table fits
 pub record Keeps (front : Front) (table : Table) : Type 0 where
   pub tasksCounted : front .n ≡ length (table .tasks)
@@ -204,10 +199,10 @@ pub record Come (image : List ℕ) (state : State) (given : List ℕ) (front : F
   pub same : state ≡ stateOf table
   pub numbers : given ≡ numbersOf (table .tasks)
   pub keeps : Keeps front table
-  pub goes : loadFrom table front place (recordsIn ((length image - at) / 32) (drop at image)) ≡ whole image
+  pub goes : loadFrom table front place (recordsIn ((length image - at) / 32) (drop at image)) ≡ loadRecords image
 
 pub come-start : (image : List ℕ) (state : State) (front : Front) → state ≡ freshState → front ≡ startFront → Come image state (replicate 64 0) front 0
-unfolding freshState freshTable startFront stateOf
+unfolding freshState freshTable startFront stateOf loadRecords
 come-start image state front s f =
     record {
       table = freshTable;
@@ -237,6 +232,15 @@ next-record image at h k l =
     ∙ (ap (λ (l : List ℕ). take 32 (drop at image) ∷ recordsIn ((length image - (at + 32)) / 32) l) (drop-drop 32 at image)
     ∙ ap (λ (w : ℕ). take w (drop at image) ∷ recordsIn ((length image - (at + 32)) / 32) (drop (at + 32) image)) width)
 
+-- how many tasks and semaphores the state has, at a place that the load has come to
+pub state-n : {image : List ℕ} {state : State} {given : List ℕ} {front : Front} {at : ℕ} (c : Come image state given front at) → state .n ≡ length (c .table .tasks)
+unfolding stateOf
+state-n c = ap (λ (s : State). s .n) (c .same)
+
+state-m : {image : List ℕ} {state : State} {given : List ℕ} {front : Front} {at : ℕ} (c : Come image state given front at) → state .m ≡ length (c .table .sems)
+unfolding stateOf
+state-m c = ap (λ (s : State). s .m) (c .same)
+
 -- the test that the loop makes, on the numbers that it keeps, is the definition's
 front-test : (tasks : List Task) (given : List ℕ) (k : ℕ) → given ≡ numbersOf tasks → k ≡ length tasks
     → _≡_ {A = ℕ → Bool} (λ number. any (λ x. eqb x number) (take k given)) (λ number. used number tasks)
@@ -248,19 +252,15 @@ module _ (image : List ℕ) (state : State) (given : List ℕ) (front : Front) (
     (fits : length image % 32 ≡ 0) (inside : at < length image)
     (d : Decoded) (e : d ≡ decoded (take (at + 32 - at) (drop at image)))
     (number : ℕ) (judged : number ≡ refusalOf front (λ k. any (λ x. eqb x k) (take (state .n) given)) d) where
-  counted : state .n ≡ length (c .table .tasks)
-  unfolding stateOf
-  counted = ap (λ (s : State). s .n) (c .same)
-
   judged-so : number ≡ refusalOf front (λ k. used k (c .table .tasks)) d
-  judged-so = judged ∙ ap (λ (t : ℕ → Bool). refusalOf front t d) (front-test (c .table .tasks) given (state .n) (c .numbers) counted)
+  judged-so = judged ∙ ap (λ (t : ℕ → Bool). refusalOf front t d) (front-test (c .table .tasks) given (state .n) (c .numbers) (state-n c))
 
-  split : loadFrom (c .table) front (c .place) (take (at + 32 - at) (drop at image) ∷ recordsIn ((length image - (at + 32)) / 32) (drop (at + 32) image)) ≡ whole image
+  split : loadFrom (c .table) front (c .place) (take (at + 32 - at) (drop at image) ∷ recordsIn ((length image - (at + 32)) / 32) (drop (at + 32) image)) ≡ loadRecords image
   split =
       let aligned : at % 32 ≡ 0 = omega (arith, c .here) in
       ap (loadFrom (c .table) front (c .place)) (sym (next-record image at fits aligned inside)) ∙ c .goes
 
-  pub come-refused : number ≢ 0 → refusedLoad number (at / 32) ≡ whole image
+  pub come-refused : number ≢ 0 → refusedLoad number (at / 32) ≡ loadRecords image
   come-refused h =
       let r = take (at + 32 - at) (drop at image) in
       let so : number ≡ refusalOf front (λ k. used k (c .table .tasks)) (decoded r) = judged-so ∙ ap (refusalOf front (λ k. used k (c .table .tasks))) e in
@@ -296,14 +296,13 @@ module _ (image : List ℕ) (state : State) (given : List ℕ) (front : Front) (
   unfolding tooMany
   task-room z x k =
       let less : front .n < 64 = leb-false 64 (front .n) (ap (tooMany front) (sym k) ∙ (come-passed z) .fits) in
-      omega (arith, c .keeps .tasksCounted, counted)
+      omega (arith, c .keeps .tasksCounted, state-n c)
 
   pub sem-room : number ≡ 0 → (x : Sem) → d ≡ SemRecord x → state .m < 16
-  unfolding tooMany stateOf
+  unfolding tooMany
   sem-room z x k =
       let less : front .m < 16 = leb-false 16 (front .m) (ap (tooMany front) (sym k) ∙ (come-passed z) .fits) in
-      let many : state .m ≡ length (c .table .sems) = ap (λ (s : State). s .m) (c .same) in
-      omega (arith, c .keeps .semsCounted)
+      omega (arith, c .keeps .semsCounted, state-m c)
 
   pub come-task : number ≡ 0 → (x : Task) → d ≡ TaskRecord x → (front′ : Front) → front′ ≡ frontAfter front d
       → Come image
@@ -311,25 +310,24 @@ module _ (image : List ℕ) (state : State) (given : List ℕ) (front : Front) (
       (set given (state .n) (x .number)) front′ (at + 32)
   unfolding taken
   come-task z x k front′ f =
-      let room : length (c .table .tasks) < 64 = omega (arith, task-room z x k, counted) in
+      let room : length (c .table .tasks) < 64 = omega (arith, task-room z x k, state-n c) in
       come-on z
       (record { tasks = set (state .tasks) (state .n) x; sems = state .sems; n = state .n + 1; m = state .m; last = state .last; board = state .board; present = state .present })
       (state-task state (c .table) x (c .same) room ∙ ap (λ (y : Decoded). stateOf (taken (c .table) y)) (sym k))
       (set given (state .n) (x .number))
       (ap (λ (l : List ℕ). set l (state .n) (x .number)) (c .numbers)
-      ∙ (ap (λ (i : ℕ). set (numbersOf (c .table .tasks)) i (x .number)) counted
+      ∙ (ap (λ (i : ℕ). set (numbersOf (c .table .tasks)) i (x .number)) (state-n c)
       ∙ (numbers-more (c .table .tasks) x room ∙ ap (λ (y : Decoded). numbersOf ((taken (c .table) y) .tasks)) (sym k)))) front′ f
 
   pub come-sem : number ≡ 0 → (x : Sem) → d ≡ SemRecord x → (front′ : Front) → front′ ≡ frontAfter front d
       → Come image
       (record { tasks = state .tasks; sems = set (state .sems) (state .m) x; n = state .n; m = state .m + 1; last = state .last; board = state .board; present = state .present })
       given front′ (at + 32)
-  unfolding taken stateOf
+  unfolding taken
   come-sem z x k front′ f =
-      let many : state .m ≡ length (c .table .sems) = ap (λ (s : State). s .m) (c .same) in
       come-on z
       (record { tasks = state .tasks; sems = set (state .sems) (state .m) x; n = state .n; m = state .m + 1; last = state .last; board = state .board; present = state .present })
-      (state-sem state (c .table) x (c .same) (omega (arith, sem-room z x k)) ∙ ap (λ (y : Decoded). stateOf (taken (c .table) y)) (sym k))
+      (state-sem state (c .table) x (c .same) (omega (arith, sem-room z x k, state-m c)) ∙ ap (λ (y : Decoded). stateOf (taken (c .table) y)) (sym k))
       given (c .numbers ∙ ap (λ (y : Decoded). numbersOf ((taken (c .table) y) .tasks)) (sym k)) front′ f
 
   pub come-board : number ≡ 0 → (b : Board) → d ≡ BoardRecord b → (front′ : Front) → front′ ≡ frontAfter front d
@@ -346,7 +344,7 @@ module _ (image : List ℕ) (state : State) (given : List ℕ) (front : Front) (
 
 -- at the end of the image the state so far is what is handed back
 pub come-end : {image : List ℕ} {state : State} {given : List ℕ} {front : Front} {at : ℕ} (c : Come image state given front at) → length image ≤ at
-    → finishedLoad state (at / 32) ≡ whole image
+    → finishedLoad state (at / 32) ≡ loadRecords image
 unfolding loadFrom recordsIn
 come-end {image} {state} {given} {front} {at} c h =
     let none : (length image - at) / 32 ≡ 0 = omega arith in
@@ -354,11 +352,6 @@ come-end {image} {state} {given} {front} {at} c h =
     ap (λ (s : State). finishedLoad s (at / 32)) (c .same)
     ∙ (ap (finishedLoad (stateOf (c .table))) there
     ∙ (ap (λ (k : ℕ). loadFrom (c .table) front (c .place) (recordsIn k (drop at image))) (sym none) ∙ c .goes))
-
--- how many tasks and semaphores the state has, at a place that the load has come to
-pub state-n : {image : List ℕ} {state : State} {given : List ℕ} {front : Front} {at : ℕ} (c : Come image state given front at) → state .n ≡ length (c .table .tasks)
-unfolding stateOf
-state-n c = ap (λ (s : State). s .n) (c .same)
 
 pub length-numbers : (tasks : List Task) → length tasks ≤ 64 → length (numbersOf tasks) ≡ 64
 length-numbers tasks h =
@@ -370,13 +363,13 @@ length-numbers tasks h =
 pub load-bad : (image : List ℕ) → badLength (length image) ≡ true → loadOf image ≡ refusedLoad 1 0
 unfolding loadOf
 load-bad image h =
-    ap (λ (k : ℕ). answered k (λ k. refusedLoad k 0) (whole image)) (firstOf-here 1 (badLength (length image)) [] h)
-    ∙ answered-refused 1 (λ k. refusedLoad k 0) (whole image) (λ e. omega arith)
+    ap (λ (k : ℕ). answered k (λ k. refusedLoad k 0) (loadRecords image)) (firstOf-here 1 (badLength (length image)) [] h)
+    ∙ answered-refused 1 (λ k. refusedLoad k 0) (loadRecords image) (λ e. omega arith)
 
-pub load-good : (image : List ℕ) → badLength (length image) ≡ false → loadOf image ≡ whole image
+pub load-good : (image : List ℕ) → badLength (length image) ≡ false → loadOf image ≡ loadRecords image
 unfolding loadOf
 load-good image h =
-    answered-done (firstOf ((1, badLength (length image)) ∷ [])) (λ k. refusedLoad k 0) (whole image)
+    answered-done (firstOf ((1, badLength (length image)) ∷ [])) (λ k. refusedLoad k 0) (loadRecords image)
     (firstOf-past 1 (badLength (length image)) [] h ∙ firstOf-none)
 
 -- the lengths that are bad, and those that are not

@@ -1,20 +1,15 @@
 -- A table as it is after loading, and the state of a table.
 -- Assumes nothing.
-use Prim.Native.Nat.{ℕ, zero, suc, _+_, _-_, _*_, _%_, _≤_, _<_}
+use Prim.Native.Nat.{ℕ, zero, suc, _+_, _-_, _≤_}
 use mathlib.Core.Path.{_≡_, refl, sym, ap, _∙_, subst}
-use mathlib.Core.Logic.{_≢_}
-use mathlib.Core.Bool.{Bool, true, false, cond, not, _&&_, _||_}
+use mathlib.Core.Bool.{Bool, cond, not, _&&_}
 use mathlib.Core.List.{List, [], _∷_, _++_, map, map-append, map-map}
 use native.Mathlib.Omega.{arith}
 use lib.Dec.{eqb}
-use lib.ListN.{length, getD, take, drop, replicate, length-map, length-replicate, take-append-drop, List·getD-map}
+use lib.ListN.{length, getD, take, drop, replicate, length-map, take-append-drop, List·getD-map}
 use lib.Seq.{take-at, drop-at, length-take-le}
 use Rattle.table.specs.declared.Task.{Task}
 use Rattle.table.specs.declared.Sem.{Sem}
-use Rattle.table.specs.declared.Holder.{Holder}
-use Rattle.table.specs.declared.Holder.the-variants.{Free, By}
-use Rattle.table.specs.declared.Status.{Status}
-use Rattle.table.specs.declared.Status.the-variants.{Idle, Waits}
 use Rattle.table.specs.declared.Found.{Found}
 use Rattle.table.specs.declared.Found.the-variants.{At, Nothing}
 use Rattle.table.specs.Entries.{blankTask, blankSem}
@@ -23,7 +18,7 @@ use Rattle.table.specs.WellFormed.{taskInRange, semInRange, taskBefore, semBefo
 use Rattle.table.proofs.SumLaws.{any-map}
 use Rattle.executive.specs.declared.state.State.{State}
 use Rattle.executive.specs.States.{tasksOf, semsOf, emptyState}
-use Rattle.executive.specs.Waits.{taskAt, semAt, waitsFor, heldBy, holderOf, waitsOn, Ends, here}
+use Rattle.executive.specs.Waits.{taskAt, semAt, waitsFor, heldBy, holderOf, waitsOn, here}
 use Rattle.executive.specs.Sound.{Sized, Sound}
 use Rattle.records.specs.Records.{loadedTask, loadedSem, encodeTask, encodeBoard, encodeSem}
 use Rattle.image.specs.declared.load.Front.{Front}

@@ -7,31 +7,31 @@
 --     loaded-sound                      the state that loading hands back is sound
 --     refused-empty                     a refused load hands back the empty state
 -- Assumes nothing.
-use Prim.Native.Nat.{ℕ, suc, _+_, _-_, _*_, _/_, _%_, _≤_, _<_}
+use Prim.Native.Nat.{ℕ, suc, _+_, _-_, _*_, _/_, _%_, _≤_}
 use mathlib.Core.Path.{_≡_, refl, sym, ap, _∙_, subst}
 use mathlib.Core.Logic.{_≢_, _⊎_, inl, inr}
-use mathlib.Core.Bool.{Bool, true, false, cond, not, _||_}
+use mathlib.Core.Bool.{Bool, true, false, cond, not}
 use mathlib.Core.List.{List, [], _∷_, _++_, append-assoc, append-nil}
 use native.Mathlib.Omega.{arith}
 use lib.Dec.{eqb, ltb}
 use lib.ListN.{length, replicate, length-append, length-replicate, replicate-append-replicate}
-use borrow.Author.Tests.{eqb-true, eqb-false, eq-eqb, ltb-false, not-false}
+use borrow.Author.Tests.{eqb-true, eqb-false, ltb-false, not-false}
 use Rattle.table.specs.WellFormed.{WellFormed, used}
 use Rattle.table.proofs.RefusalLaws.{firstOf-zero}
 use Rattle.executive.specs.declared.state.State.{State}
 use Rattle.executive.specs.States.{tasksOf, semsOf, emptyState}
-use Rattle.executive.specs.Sound.{Sized, Sound}
+use Rattle.executive.specs.Sound.{Sound}
 use Rattle.records.specs.Records.{Bytes, decoded}
 use Rattle.image.specs.declared.load.Front.{Front}
 use Rattle.image.specs.declared.load.Loaded.{Loaded}
-use Rattle.image.specs.Loading.{Table, freshTable, startFront, taken, frontAfter, refusalOf, stateOf, refusedLoad, acceptedLoad, finishedLoad, loadFrom, recordsIn, badLength, loadOf}
+use Rattle.image.specs.Loading.{Table, freshTable, startFront, taken, frontAfter, refusalOf, stateOf, refusedLoad, acceptedLoad, finishedLoad, loadFrom, recordsIn, badLength, loadRecords, loadOf}
 use Rattle.image.specs.Writing.{flat, encoded, tableOf, badBuffer, writeNumber, written}
 use Rattle.image.specs.Accepted.{Accepted, asLoaded}
-use Rattle.image.proofs.LoadLaws.{whole, load-bad, load-good, load-stop, load-go, length-right}
+use Rattle.image.proofs.LoadLaws.{load-bad, load-good, load-stop, load-go, length-right}
 use Rattle.image.proofs.WriteLaws.{length-table, write-good, buffer-right}
 use Rattle.image.proofs.GrowLaws.{growing-start, growing-well, neither}
 use Rattle.image.proofs.ReplayLaws.{erasedBytes, replayed, Ended, ended-of, finished-none, finished-some}
-use Rattle.image.proofs.LoadedLaws.{loadedTable, loaded-well, loaded-bytes, loaded-tasks, loaded-sems, state-tasks, state-sems, state-table, state-sound, empty-sound, as-loaded}
+use Rattle.image.proofs.LoadedLaws.{loadedTable, loaded-well, loaded-bytes, loaded-tasks, loaded-sems, state-table, state-sound, empty-sound, as-loaded}
 
 -- a length that is not bad
 length-good : (bytes : ℕ) → badLength bytes ≡ false → (bytes % 32 ≡ 0) × (bytes ≤ 4096)
@@ -51,7 +51,7 @@ accepted-length image h = go (badLength (length image)) refl
 
 -- what an accepted image was
 ended : (image : List ℕ) → Bytes image → (loadOf image) .number ≡ 0 → Ended freshTable image (loadOf image)
-unfolding startFront
+unfolding startFront loadRecords
 ended image bytes h =
     let good = accepted-length image h in
     let long = length-good (length image) good in
@@ -79,6 +79,7 @@ length-image t e =
 -- the encoding of a well-formed table, with erased records behind it, loads to that table
 encoded-loads : (t : Table) → WellFormed (t .tasks) (t .sems) (t .board) (t .present) → (e : ℕ) → length (encoded t ++ erasedBytes (32 * e)) ≤ 4096
     → loadOf (encoded t ++ erasedBytes (32 * e)) ≡ acceptedLoad (stateOf (loadedTable t))
+unfolding loadRecords
 encoded-loads t well e fits =
     let u = loadedTable t in
     let same : encoded t ++ erasedBytes (32 * e) ≡ encoded u ++ erasedBytes (32 * e) = ap (λ (l : List ℕ). l ++ erasedBytes (32 * e)) (sym (loaded-bytes t)) in
@@ -123,7 +124,7 @@ records-empty (r ∷ rs) t f place =
         inr (ap (λ (l : Loaded). l .state) (load-stop t f place r rs (eqb-false (refusalOf f (λ number. used number (t .tasks)) (decoded r)) 0 e)))
 
 image-empty : (image : List ℕ) → ((loadOf image) .number ≡ 0) ⊎ ((loadOf image) .state ≡ emptyState)
-unfolding refusedLoad
+unfolding refusedLoad loadRecords
 image-empty image = go (badLength (length image)) refl
   where
     go : (b : Bool) → badLength (length image) ≡ b → ((loadOf image) .number ≡ 0) ⊎ ((loadOf image) .state ≡ emptyState)

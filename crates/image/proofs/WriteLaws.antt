@@ -1,19 +1,18 @@
 -- The laws of writing: parts put one behind the other, and how long the records are.
 -- Assumes nothing.
-use Prim.Native.Nat.{ℕ, zero, suc, _+_, _-_, _*_, _%_, _≤_, _<_}
+use Prim.Native.Nat.{ℕ, _+_, _-_, _*_, _≤_, _<_}
 use mathlib.Core.Path.{_≡_, refl, sym, ap, _∙_}
-use mathlib.Core.Bool.{Bool, true, false, cond, _||_}
+use mathlib.Core.Logic.{_≢_}
+use mathlib.Core.Bool.{Bool, true, false, cond}
 use mathlib.Core.List.{List, [], _∷_, _++_, append-assoc, append-nil}
-use native.Mathlib.Nat.{add-mul, mul-suc}
 use native.Mathlib.Numerals.{add-one}
 use native.Mathlib.Omega.{arith}
-use lib.Dec.{eqb, ltb}
+use lib.Dec.{eqb}
 use lib.ListN.{length, getD, take, drop, replicate, length-append, length-drop}
 use lib.Seq.{drop-drop, drop-length, take-at, drop-at, take-suc, length-take-le}
 use borrow.Author.Tests.{eq-eqb, ne-eqb, lt-ltb, le-ltb}
 use borrow.Rule.Slice.PartMut.{putMid}
 use Rattle.table.specs.declared.Board.{Board}
-use Rattle.table.specs.Refusals.{firstOf, answered}
 use Rattle.table.proofs.RefusalLaws.{answered-refused, answered-done, firstOf-here, firstOf-past, firstOf-none}
 use Rattle.executive.specs.declared.state.State.{State}
 use Rattle.executive.specs.States.{tasksOf, semsOf}
@@ -97,22 +96,23 @@ length-encoded s z =
     let m : length (take (s .m) (s .sems)) ≡ s .m = length-take-le (s .m) (s .sems) (omega (arith, z .semsLength, z .semsFit)) in
     omega arith
 
--- a write that is refused, with its number
+-- a write that is refused, with its number, leaves the buffer as it was
+write-refused : (s : State) (buffer : List ℕ) (k : ℕ) → writeNumber s (length buffer) ≡ k → k ≢ 0 → (k ≡ writeNumber s (length buffer)) × (buffer ≡ written s buffer)
+unfolding written
+write-refused s buffer k e h = (sym e, sym (answered-refused (writeNumber s (length buffer)) (λ number. buffer) _ (λ z. h (sym e ∙ z))))
+
 pub write-none : (s : State) (buffer : List ℕ) → s .n ≡ 0 → (7 ≡ writeNumber s (length buffer)) × (buffer ≡ written s buffer)
-unfolding writeNumber written
+unfolding writeNumber
 write-none s buffer h =
-    let seven : writeNumber s (length buffer) ≡ 7 = firstOf-here 7 (eqb (s .n) 0) ((9, badBuffer s (length buffer)) ∷ []) (eq-eqb (s .n) 0 h) in
-    let all = encoded (tableOf s) ++ replicate (length buffer - length (encoded (tableOf s))) 255 in
-    (sym seven, sym (ap (λ (k : ℕ). answered k (λ number. buffer) all) seven ∙ answered-refused 7 (λ number. buffer) all (λ e. omega arith)))
+    write-refused s buffer 7 (firstOf-here 7 (eqb (s .n) 0) ((9, badBuffer s (length buffer)) ∷ []) (eq-eqb (s .n) 0 h)) (λ e. omega arith)
 
 pub write-bad : (s : State) (buffer : List ℕ) → (s .n ≡ 0 → ⊥) → badBuffer s (length buffer) ≡ true
     → (9 ≡ writeNumber s (length buffer)) × (buffer ≡ written s buffer)
-unfolding writeNumber written
+unfolding writeNumber
 write-bad s buffer h k =
-    let nine : writeNumber s (length buffer) ≡ 9 =
-    firstOf-past 7 (eqb (s .n) 0) ((9, badBuffer s (length buffer)) ∷ []) (ne-eqb (s .n) 0 h) ∙ firstOf-here 9 (badBuffer s (length buffer)) [] k in
-    let all = encoded (tableOf s) ++ replicate (length buffer - length (encoded (tableOf s))) 255 in
-    (sym nine, sym (ap (λ (k : ℕ). answered k (λ number. buffer) all) nine ∙ answered-refused 9 (λ number. buffer) all (λ e. omega arith)))
+    write-refused s buffer 9
+    (firstOf-past 7 (eqb (s .n) 0) ((9, badBuffer s (length buffer)) ∷ []) (ne-eqb (s .n) 0 h) ∙ firstOf-here 9 (badBuffer s (length buffer)) [] k)
+    (λ e. omega arith)
 
 pub write-good : (s : State) (buffer : List ℕ) → (s .n ≡ 0 → ⊥) → badBuffer s (length buffer) ≡ false
     → (writeNumber s (length buffer) ≡ 0) × (written s buffer ≡ encoded (tableOf s) ++ replicate (length buffer - length (encoded (tableOf s))) 255)

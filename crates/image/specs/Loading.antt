@@ -93,13 +93,7 @@ tooMany f (Refused number) = false
 unfoldable pub refusalOf : Front → (ℕ → Bool) → Decoded → ℕ
 refusalOf f usedBefore d =
     firstOf
-    ((3, usedAfter (f .erased) d)
-    ∷ (2, refusedAs 2 d)
-    ∷ (4, refusedAs 4 d)
-    ∷ (5, orderBroken f d)
-    ∷ (8, numberTwice usedBefore d)
-    ∷ (6, tooMany f d)
-    ∷ [])
+    ((3, usedAfter (f .erased) d) ∷ (2, refusedAs 2 d) ∷ (4, refusedAs 4 d) ∷ (5, orderBroken f d) ∷ (8, numberTwice usedBefore d) ∷ (6, tooMany f d) ∷ [])
 
 -- the state of a table: the entries behind the tasks and semaphores are blank, and no release was accepted yet
 unfoldable pub stateOf : Table → State
@@ -142,8 +136,10 @@ recordsIn (suc count) bytes = take 32 bytes ∷ recordsIn count (drop 32 bytes)
 unfoldable pub badLength : ℕ → Bool
 badLength bytes = not (eqb (bytes % 32) 0) || ltb 4096 bytes
 
+-- the records of an image, from its first
+unfoldable pub loadRecords : List ℕ → Loaded
+loadRecords image = loadFrom freshTable startFront 0 (recordsIn (length image / 32) image)
+
 -- 01, "Numbers that come back": loading checks 1, then each record from the front, then 7
 unfoldable pub loadOf : List ℕ → Loaded
-loadOf image =
-    answered (firstOf ((1, badLength (length image)) ∷ [])) (λ k. refusedLoad k 0)
-    (loadFrom freshTable startFront 0 (recordsIn (length image / 32) image))
+loadOf image = answered (firstOf ((1, badLength (length image)) ∷ [])) (λ k. refusedLoad k 0) (loadRecords image)

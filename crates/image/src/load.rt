@@ -1,12 +1,12 @@
 // Loading: the records from the front, each judged by what was read so far.
 ghost use mathlib.Core.Path.{_≡_};
 ghost use mathlib.Core.Bool.{false, _||_};
-ghost use Prim.Native.Nat.{_/_, _%_, _≤_};
+ghost use Prim.Native.Nat.{_%_, _≤_};
 ghost use lib.Dec.{eqb};
 ghost use lib.ListN.{length};
 ghost use Rattle.table.specs.Sums.{any};
 ghost use Rattle.table.specs.WellFormed.{taskBefore};
-ghost use Rattle.image.specs.Loading.{loadOf, loadFrom, freshTable, recordsIn, refusedLoad, finishedLoad};
+ghost use Rattle.image.specs.Loading.{loadOf, loadRecords, refusedLoad, finishedLoad};
 ghost use Rattle.image.specs.Loading.{startFront, frontAfter, refusalOf};
 use executive::state::State;
 use records::Decoded;
@@ -60,7 +60,7 @@ fn refused(number: u8, place: usize) -> Loaded
 // The state is built in place, and each record is judged by the front alone, so that no turn copies the state.
 fn load_records(image: &[u8]) -> Loaded
     requires { ⌜ length (now image) % 32 ≡ 0 ⌝ }
-    ensures { λ r. ⌜ r ≡ loadFrom freshTable startFront 0 (recordsIn (length (now (image .entry)) / 32) (now (image .entry))) ⌝ }
+    ensures { λ r. ⌜ r ≡ loadRecords (now (image .entry)) ⌝ }
 {
     let mut state = State::fresh();
     let mut given: [u16; 64] = [0; 64];
@@ -177,7 +177,8 @@ impl Front {
     }
 
     fn task_refusal(self, task: Task, given: &[u16]) -> u8
-        ensures { λ r. ⌜ r ≡ refusalOf self (λ number. any (λ x. eqb x number) (now (given .entry))) (Decoded.TaskRecord task) ⌝ }
+        ensures { λ r.
+            ⌜ r ≡ refusalOf self (λ k. any (λ x. eqb x k) (now (given .entry))) (Decoded.TaskRecord task) ⌝ }
     {
         if self.erased {
             return numbers::USED_AFTER_ERASED;

@@ -15,7 +15,8 @@ use table::numbers;
 
 pub fn write(state: State, buf: &mut [u8]) -> u8
     requires { ⌜ Sized state ⌝ }
-    ensures { λ r. ⌜ (r ≡ writeNumber state (length (now (buf .entry)))) × (now (buf .exit) ≡ written state (now (buf .entry))) ⌝ }
+    ensures { λ r. ⌜ r ≡ writeNumber state (length (now (buf .entry))) ⌝ }
+    ensures { λ _. ⌜ now (buf .exit) ≡ written state (now (buf .entry)) ⌝ }
 {
     let n = state.n;
     let m = state.m;

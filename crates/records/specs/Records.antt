@@ -1,7 +1,7 @@
 -- One record of 32 bytes (01, "The image": the table of kinds and fields).
 use Prim.Native.Nat.{ℕ, _<_}
 use mathlib.Core.Bool.{Bool, cond, _&&_}
-use mathlib.Core.List.{List, [], _∷_, _++_}
+use mathlib.Core.List.{List, _∷_, _++_}
 use lib.Dec.{eqb}
 use lib.ListN.{length, getD, drop, replicate}
 use Rattle.table.specs.declared.Task.{Task}

@@ -3,7 +3,7 @@
 use mathlib.Core.Path.{sym}
 use native.Mathlib.Omega.{arith}
 use Rattle.table.specs.WellFormed.{boardInRange}
-use Rattle.table.proofs.OrderLaws.{BoardRange, board-range, board-in-range, not-so}
+use Rattle.table.proofs.OrderLaws.{board-range, board-in-range, not-so}
 use Rattle.records.proofs.board_in_range.Statement.{statement}
 use Rattle.records.proofs.board_in_range.Tie as tie
 

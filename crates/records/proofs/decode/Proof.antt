@@ -1,23 +1,12 @@
 -- `records::decode` meets its contract: each arm is one kind.
 -- Assumes nothing.
-use mathlib.Core.Path.{_≡_, refl, sym, ap, _∙_}
-use mathlib.Core.Bool.{Bool, true, false, _&&_}
+use mathlib.Core.Path.{sym, _∙_}
 use native.Mathlib.Omega.{arith}
 use denote.Ref.{now}
-use lib.Dec.{eqb}
-use lib.ListN.{length, getD, drop}
-use borrow.Author.Tests.{eq-eqb, ne-eqb, not-true, not-false}
-use Rattle.table.specs.declared.Task.{Task}
-use Rattle.table.specs.declared.Sem.{Sem}
-use Rattle.table.specs.declared.Status.the-variants.{Idle}
-use Rattle.table.specs.declared.Holder.the-variants.{Free}
-use Rattle.table.specs.WellFormed.{within, taskInRange, boardInRange, semInRange}
-use Rattle.table.proofs.SumLaws.{both}
-use Rattle.table.proofs.OrderLaws.{within-true, true-within, not-so}
-use Rattle.fields.specs.Fields.{allAre}
-use Rattle.records.specs.declared.Decoded.the-variants.{Erased, TaskRecord, BoardRecord, SemRecord, Refused}
-use Rattle.records.specs.Records.{taskIn, boardIn, semIn, taskDecoded, boardDecoded, semDecoded, decoded}
-use Rattle.records.proofs.RecordLaws.{refused-4, taken-as, neither-left, neither-right, rest-whole, not-erased}
+use lib.ListN.{getD}
+use borrow.Author.Tests.{eq-eqb, ne-eqb}
+use Rattle.records.specs.Records.{decoded}
+use Rattle.records.proofs.RecordLaws.{not-erased}
 use borrow.Author.Needs.{needs}
 use Rattle.records.proofs.decode.Statement.{statement}
 use Rattle.records.proofs.decode.Tie as tie

@@ -1,23 +1,17 @@
 -- `records::decode_board` meets its contract: the board is the one in the bytes, and each refusal is one part of the test.
 -- Assumes nothing.
-use mathlib.Core.Path.{_≡_, refl, sym, ap, _∙_}
-use mathlib.Core.Bool.{Bool, true, false, _&&_}
-use native.Mathlib.Omega.{arith}
+use mathlib.Core.Path.{_≡_, sym, ap, _∙_}
+use mathlib.Core.Bool.{true, false, _&&_}
 use denote.Ref.{now}
 use lib.Dec.{eqb}
-use lib.ListN.{length, getD, drop}
+use lib.ListN.{getD, drop}
 use borrow.Author.Tests.{eq-eqb, ne-eqb, not-true, not-false}
-use Rattle.table.specs.declared.Task.{Task}
-use Rattle.table.specs.declared.Sem.{Sem}
-use Rattle.table.specs.declared.Status.the-variants.{Idle}
-use Rattle.table.specs.declared.Holder.the-variants.{Free}
-use Rattle.table.specs.WellFormed.{within, taskInRange, boardInRange, semInRange}
+use Rattle.table.specs.WellFormed.{boardInRange}
 use Rattle.table.proofs.SumLaws.{both}
-use Rattle.table.proofs.OrderLaws.{within-true, true-within, not-so}
 use Rattle.fields.specs.Fields.{allAre}
-use Rattle.records.specs.declared.Decoded.the-variants.{Erased, TaskRecord, BoardRecord, SemRecord, Refused}
-use Rattle.records.specs.Records.{taskIn, boardIn, semIn, taskDecoded, boardDecoded, semDecoded, decoded}
-use Rattle.records.proofs.RecordLaws.{refused-4, taken-as, neither-left, neither-right, rest-whole, not-erased}
+use Rattle.records.specs.declared.Decoded.the-variants.{BoardRecord}
+use Rattle.records.specs.Records.{boardIn, boardDecoded}
+use Rattle.records.proofs.RecordLaws.{refused-4, taken-as, neither-left, neither-right, rest-whole}
 use borrow.Author.Needs.{needs}
 use Rattle.records.proofs.decode_board.Statement.{statement}
 use Rattle.records.proofs.decode_board.Tie as tie

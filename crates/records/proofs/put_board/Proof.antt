@@ -1,10 +1,9 @@
 -- `records::put_board` meets its contract: zeros, then the kind and the nine figures.
 -- Assumes nothing.
 use Prim.Native.Nat.{ℕ}
-use mathlib.Core.Path.{_≡_, refl, sym, ap, _∙_}
+use mathlib.Core.Path.{_≡_, ap, _∙_}
 use mathlib.Core.List.{List}
 use native.Mathlib.Omega.{arith}
-use denote.Ref.{now}
 use lib.ListN.{length, set, replicate, length-set}
 use Rattle.fields.specs.Fields.{putAt}
 use Rattle.records.proofs.RecordLaws.{board-put}

@@ -1,11 +1,10 @@
 -- `records::put_sem` meets its contract: zeros, then the kind and the number.
 -- Assumes nothing.
 use Prim.Native.Nat.{ℕ}
-use mathlib.Core.Path.{_≡_, refl, sym, ap, _∙_}
+use mathlib.Core.Path.{_≡_, ap, _∙_}
 use mathlib.Core.List.{List}
 use native.Mathlib.Omega.{arith}
-use denote.Ref.{now}
-use lib.ListN.{length, set, replicate, length-set}
+use lib.ListN.{set, replicate, length-set}
 use Rattle.fields.specs.Fields.{putAt}
 use Rattle.records.proofs.RecordLaws.{sem-put}
 use borrow.Author.Needs.{needs}

@@ -1,10 +1,9 @@
 -- `records::task_in_range` meets its contract: each test is one bound of a field.
 -- Assumes nothing.
-use Prim.Native.Nat.{_≤_}
-use mathlib.Core.Path.{_≡_, sym}
+use mathlib.Core.Path.{sym}
 use native.Mathlib.Omega.{arith}
 use Rattle.table.specs.WellFormed.{taskInRange}
-use Rattle.table.proofs.OrderLaws.{TaskRange, task-range, task-in-range, not-so}
+use Rattle.table.proofs.OrderLaws.{task-range, task-in-range, not-so}
 use Rattle.records.proofs.task_in_range.Statement.{statement}
 use Rattle.records.proofs.task_in_range.Tie as tie
 

@@ -1,9 +1,8 @@
 -- `image::write::put_board` meets its contract: the board record, or nothing.
 -- Assumes nothing.
-use Prim.Native.Nat.{ℕ}
-use mathlib.Core.Path.{_≡_, refl, sym, ap, _∙_}
+use mathlib.Core.Path.{_≡_, sym, ap, _∙_}
 use mathlib.Core.Bool.{Bool, cond}
-use mathlib.Core.List.{List, []}
+use mathlib.Core.List.{[]}
 use denote.Ref.{now}
 use lib.ListN.{length}
 use Rattle.records.specs.Records.{encodeBoard}

@@ -1,18 +1,12 @@
 -- `image::write::write` meets its contract: 7, 9, or the records and 255 behind them.
 -- Assumes nothing.
-use Prim.Native.Nat.{ℕ, _+_, _-_, _*_, _≤_}
-use mathlib.Core.Path.{_≡_, refl, sym, ap, _∙_}
+use Prim.Native.Nat.{ℕ, _-_, _≤_}
+use mathlib.Core.Path.{_≡_, sym, _∙_}
 use mathlib.Core.Bool.{Bool, true, false, cond}
-use mathlib.Core.List.{List, [], _++_}
 use native.Mathlib.Omega.{arith}
 use denote.Ref.{now}
-use lib.ListN.{length, take, drop, replicate, length-append, length-drop}
-use lib.Seq.{length-take-le}
-use borrow.Rule.Slice.PartMut.{putMid, mid-len}
-use Rattle.executive.specs.States.{tasksOf, semsOf}
-use Rattle.records.specs.Records.{encodeTask, encodeBoard, encodeSem}
-use Rattle.records.proofs.RecordLaws.{length-task, length-sem}
-use Rattle.image.specs.Writing.{flat, encoded, tableOf}
+use lib.ListN.{length}
+use Rattle.image.specs.Writing.{encoded, tableOf}
 use Rattle.image.proofs.LoadLaws.{length-odd, length-long, length-right}
 use Rattle.image.proofs.WriteLaws.{write-none, write-bad, write-good, buffer-bad, buffer-short, buffer-right, length-encoded, all-parts}
 use borrow.Author.Needs.{needs}

@@ -1,20 +1,16 @@
 -- `Front::task_refusal` meets its contract: 3, 5, 8, 6.
 -- Assumes nothing.
-use Prim.Native.Nat.{ℕ}
-use mathlib.Core.Path.{_≡_, refl, sym, ap, _∙_}
-use mathlib.Core.Bool.{Bool, true, false, cond, not, _||_}
-use mathlib.Core.List.{List, [], _∷_}
+use mathlib.Core.Path.{_≡_, sym, _∙_}
+use mathlib.Core.Bool.{true, false, _||_}
 use native.Mathlib.Omega.{arith}
 use denote.Ref.{now}
-use lib.Dec.{eqb, leb, ltb}
-use borrow.Author.Tests.{eq-eqb, ne-eqb, lt-ltb, le-ltb, le-leb, lt-leb, not-true, not-false}
+use lib.Dec.{eqb}
+use borrow.Author.Tests.{eq-eqb, ne-eqb, le-leb, lt-leb, not-true, not-false}
 use borrow.Author.Needs.{needs}
 use Rattle.table.specs.Refusals.{firstOf}
 use Rattle.table.specs.Sums.{any}
-use Rattle.table.specs.WellFormed.{taskBefore, semBefore}
-use Rattle.records.specs.declared.Decoded.{Decoded}
-use Rattle.records.specs.declared.Decoded.the-variants.{Erased, TaskRecord, BoardRecord, SemRecord, Refused}
-use Rattle.image.specs.Loading.{startFront, frontAfter, refusalOf, usedAfter, refusedAs, orderBroken, numberTwice, tooMany}
+use Rattle.table.specs.WellFormed.{taskBefore}
+use Rattle.image.specs.Loading.{refusalOf, usedAfter, refusedAs, orderBroken, numberTwice, tooMany}
 use Rattle.image.proofs.load.Front.task_refusal.Statement.{statement}
 use Rattle.image.proofs.load.Front.task_refusal.Tie as tie
 
