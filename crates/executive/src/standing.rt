@@ -1,12 +1,12 @@
 // Standing and the running task. Nothing is kept in the state: both are worked out from who waits for what, by one scan over the tasks.
 ghost use mathlib.Core.Path.{_≡_};
-ghost use Prim.Native.Nat.{_<_};
+ghost use Prim.Native.Nat.{_<_, _≤_};
 ghost use lib.ListN.{length};
 ghost use Rattle.executive.specs.States.{tasksOf, semsOf};
 ghost use Rattle.executive.specs.Sound.{Sound};
 ghost use Rattle.executive.specs.Waits.{waitsFor};
 ghost use Rattle.executive.specs.Standing.{runningOf, numberAt, shownDeadline};
-ghost use Rattle.executive.specs.Scan.{takes, semCode, holderLeads, Linked, walked, ledTo, folded, winnerOf, bestFor, metFound};
+ghost use Rattle.executive.specs.Scan.{takes, semCode, holderLeads, Linked, walked, followed, ledTo, folded, winnerOf, bestFor, metFound};
 ghost use Rattle.executive.specs.Calls.{standsOf};
 use crate::state::State;
 use table::Found;
@@ -106,25 +106,21 @@ fn led_by(goal: Goal, status: Status, place: u8) -> u8
     waited(status)
 }
 
-// The table followed from a place on. A chain passes each semaphore once, so that 17 steps suffice.
+// The table followed from a place on. A chain passes each semaphore once, so that it comes to an end.
 pub fn walk(link: [u8; 16], from: u8) -> u8
+    requires { ⌜ 16 ≤ walked 17 link from ⌝ }
     ensures { λ r. ⌜ r ≡ walked 17 link from ⌝ }
 {
     let mut at = from;
-    let mut hops: usize = 0;
-    while hops < 17 {
-        if at >= 16 {
-            return at;
-        }
+    while at < 16 {
         at = link[at as usize];
-        hops += 1;
     }
     at
 }
 
 // Where the chain of a task leads.
 fn led_to(link: [u8; 16], goal: Goal, status: Status, place: u8) -> u8
-    requires { ⌜ place < 64 ⌝ }
+    requires { ⌜ (place < 64) × (16 ≤ followed link (waitsFor status)) ⌝ }
     ensures { λ r. ⌜ r ≡ ledTo link goal status place ⌝ }
 {
     if taken(goal, status, place) {

@@ -40,7 +40,10 @@ enum-known-status c = search needs
 
 -- src/standing.rt:137:29
 walk-requires : tie.Need-walk-requires
-walk-requires c κs = search needs
+unfolding followed waitsFor
+walk-requires c κs =
+    let q = c .before .status .given .1 in
+    rw q at (c .before .before .before .before .before .pre .1)
 
 -- src/standing.rt:126:1
 returns-2 : tie.Need-returns-2

@@ -1,3 +1,6 @@
+use Rattle.executive.specs.declared.standing.Goal.the-variants.{Is}
+use Rattle.executive.proofs.ChainLaws.{chained, sems-length}
+use Rattle.executive.proofs.ScanLaws.{walk-ends}
 use Prim.Native.Nat.{ℕ, _+_, _<_, _≤_}
 use mathlib.Core.Path.{_≡_, refl, sym, ap, _∙_}
 use mathlib.Core.List.{[], _∷_}
@@ -134,7 +137,14 @@ cast-walk c = omega (arith, small (c .before))
 
 -- src/calls.rt:312:12
 walk-requires : tie.Need-walk-requires
-walk-requires c κs = search needs
+walk-requires c κs =
+    let b = c .before .before .before .before .before .before .before .before .before .before in
+    let s = b .args .t1 in
+    let z = b .pre .sized in
+    let sl = sems-length s (b .pre) in
+    let h = held (c .before) in
+    walk-ends (tasksOf s) (semsOf s) (Is (c .before .before .before .before .before .before .runs .given .0 .0)) (chained s (b .pre)) (c .links .result) (c .links .ensures) (omega arith)
+    (c .before .before .found .given .0 .0) (omega arith)
 
 -- src/calls.rt:313:13
 returns-3 : tie.Need-returns-3

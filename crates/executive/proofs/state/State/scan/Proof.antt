@@ -4,14 +4,14 @@ use native.Mathlib.Numerals.{add-one}
 use Rattle.table.specs.declared.Task.{Task}
 use Rattle.table.specs.Entries.{blankTask}
 use Rattle.executive.specs.declared.standing.Best.{Best}
-use Rattle.executive.specs.Waits.{taskAt}
-use Rattle.executive.specs.Scan.{folded, metCode, metBy, ledTo}
+use Rattle.executive.specs.Waits.{taskAt, waitsFor}
+use Rattle.executive.specs.Scan.{followed, folded, metCode, metBy, ledTo}
 use Rattle.executive.proofs.CallLaws.{task-at}
 use Rattle.executive.proofs.ChainLaws.{chained, tasks-length, sems-length}
-use Rattle.executive.proofs.ScanLaws.{led-met, fold-step}
+use Rattle.executive.proofs.ScanLaws.{follow-ends, led-met, fold-step}
 use Rattle.executive.proofs.SoundLaws.{queue-most}
 use Prim.Native.Nat.{ℕ, suc, _-_, _≤_, _<_, _+_}
-use mathlib.Core.Path.{_≡_, refl, sym, ap, _∙_}
+use mathlib.Core.Path.{_≡_, refl, sym, ap, subst, _∙_}
 use native.Mathlib.Omega.{arith}
 use borrow.Author.Needs.{needs}
 use Rattle.executive.specs.States.{tasksOf, semsOf}
@@ -58,7 +58,19 @@ cast-led-to c = let z = c .before .before .before .before .pre .sized in omega a
 
 -- src/standing.rt:235:17
 led-to-requires : tie.Need-led-to-requires Inv-loop μ-loop
-led-to-requires c κs = let z = c .before .before .before .before .pre .sized in omega arith
+led-to-requires c κs =
+    let b = c .before .before .before .before in
+    let s = b .args .t1 in
+    let links = c .before .before .before .links in
+    let below = c .before .loop-test .taken in
+    let z = b .pre .sized in
+    let tl = tasks-length s (b .pre) in
+    let sl = sems-length s (b .pre) in
+    let i = c .before .before .loop .i in (
+      omega arith,
+      subst (λ (t : Task). 16 ≤ followed (links .result) (waitsFor (t .status))) (task-at s i below)
+          (follow-ends (tasksOf s) (semsOf s) (b .args .goal) (chained s (b .pre)) (links .result) (links .ensures) (omega arith) i (omega arith)),
+    )
 
 -- src/standing.rt:236:13
 fold-requires : tie.Need-fold-requires Inv-loop μ-loop
