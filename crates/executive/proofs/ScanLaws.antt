@@ -1,9 +1,9 @@
 -- The laws of the scan: what the table of links leads to, and what the fold over the tasks keeps.
 -- Assumes nothing.
-use Prim.Native.Nat.{ℕ, zero, suc, _+_, _-_, _≤_, _<_}
+use Prim.Native.Nat.{ℕ, zero, suc, _+_, _≤_, _<_}
 use mathlib.Core.Path.{_≡_, refl, sym, ap, subst, _∙_}
 use mathlib.Core.Bool.{Bool, true, false, cond, _&&_, _||_}
-use mathlib.Core.List.{List, [], _∷_}
+use mathlib.Core.List.{List}
 use native.Mathlib.Omega.{arith}
 use lib.Dec.{ltb, eqb}
 use lib.ListN.{length, getD, set, length-set}
@@ -15,59 +15,17 @@ use Rattle.table.specs.declared.Holder.{Holder}
 use Rattle.table.specs.declared.Holder.the-variants.{Free, By}
 use Rattle.table.specs.declared.Found.{Found}
 use Rattle.table.specs.declared.Found.the-variants.{At, Nothing}
-use Rattle.table.specs.declared.Status.{Status}
 use Rattle.table.specs.Entries.{blankTask, blankSem}
 use Rattle.executive.specs.declared.state.State.{State}
 use Rattle.executive.specs.declared.standing.Goal.{Goal}
-use Rattle.executive.specs.declared.standing.Best.{Best}
 use Rattle.executive.specs.States.{tasksOf, semsOf}
 use Rattle.executive.specs.Waits.{taskAt, semAt, waitsFor, heldBy, waitsOn}
 use Rattle.executive.specs.Sound.{Sound}
-use Rattle.executive.specs.Standing.{Rank, foundAnd, foundOr, ownOf, shownDeadline, better, reaches, preferred, bestAmong, standingOf}
+use Rattle.executive.specs.Standing.{foundAnd, ownOf, shownDeadline, better, preferred, bestAmong}
 use Rattle.executive.specs.Reaches.{Reaches}
-use Rattle.executive.specs.Scan.{
-  walked,
-  followed,
-  takes,
-  takenAt,
-  holderLeads,
-  ledBy,
-  Linked,
-  ledTo,
-  onward,
-  meets,
-  metBy,
-  semCode,
-  metCode,
-  noBest,
-  asBest,
-  folded,
-  winnerOf,
-  bestFor,
-  metFound,
-}
-use Rattle.executive.proofs.RankLaws.{
-  own-once,
-  IsBest,
-  best-is,
-  best-none,
-  best-some,
-  best-nothing,
-  best-only,
-  better-irrefl,
-}
-use Rattle.executive.proofs.ChainLaws.{
-  Chained,
-  Long,
-  waits-held,
-  waits-none,
-  on-held,
-  chain,
-  long-bound,
-  reached-below,
-  reaches-true,
-  true-reaches,
-}
+use Rattle.executive.specs.Scan.{walked, followed, takes, takenAt, holderLeads, ledBy, Linked, ledTo, onward, meets, metBy, semCode, metCode, noBest, asBest, folded, winnerOf, bestFor}
+use Rattle.executive.proofs.RankLaws.{best-is}
+use Rattle.executive.proofs.ChainLaws.{Chained, Long, waits-held, waits-none, chain}
 use Rattle.executive.proofs.CallLaws.{task-at, sem-at}
 
 -- one step along the table, and none from where no semaphore is

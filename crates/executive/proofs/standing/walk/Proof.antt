@@ -1,15 +1,15 @@
+-- `standing::walk` meets its contract: the walk from where the loop stands ends where the whole walk does. The measure is the steps that are left.
+-- Assumes nothing.
 use Prim.Native.Nat.{ℕ, suc, _≤_, _<_}
-use mathlib.Core.Path.{_≡_, refl, sym, ap, _∙_}
+use mathlib.Core.Path.{_≡_, refl, sym, _∙_}
 use native.Mathlib.Omega.{arith}
+use lib.ListN.{getD}
 use borrow.Author.Needs.{needs}
 use borrow.Author.Tests.{lt-ltb}
-use lib.ListN.{getD}
 use Rattle.executive.specs.Scan.{walked}
 use Rattle.executive.proofs.ScanLaws.{left, walked-step, walked-stays, walked-more}
 use Rattle.executive.proofs.standing.walk.Statement.{statement}
 use Rattle.executive.proofs.standing.walk.Tie as tie
-use Rattle.executive.proofs.standing.walk.Reads as reads
-use Rattle.executive.proofs.standing.walk.Lts as lts
 
 abbrev Inv-loop : tie.InvT-loop
 Inv-loop from link at₀ at = (16 ≤ walked 17 link at) × (walked 17 link at ≡ walked 17 link from)
@@ -36,15 +36,12 @@ lower x y z p q = omega arith
 loop-holds : tie.Need-loop-holds Inv-loop μ-loop
 loop-holds c = (c .pre, refl)
 
--- src/standing.rt:116:19
 cast-at : tie.Need-cast-at Inv-loop μ-loop
 cast-at c = search needs
 
--- src/standing.rt:116:14
 array-read-at : tie.Need-array-read-at Inv-loop μ-loop
 array-read-at c = search needs
 
--- src/standing.rt:115:5
 loop-less : tie.Need-loop-less Inv-loop μ-loop
 unfolding left
 loop-less c =
@@ -55,14 +52,12 @@ loop-less c =
     let now : left 17 (a .t1) (l .at) ≡ suc (left 16 (a .t1) next) = rw (lt-ltb (l .at) 16 (c .loop-test .taken)) in
     lower (left 17 (a .t1) next) (left 17 (a .t1) (l .at)) (left 16 (a .t1) next) r now
 
--- src/standing.rt:115:5
 loop-again : tie.Need-loop-again Inv-loop μ-loop
 loop-again c = let a = c .before .before .args in
     let r = rest c in
     let step = walked-step 16 (a .t1) (c .before .loop .at) (c .loop-test .taken) in
     (rw (r .1 .0) (r .0), r .1 .0 ∙ sym step ∙ c .before .loop .inv .1)
 
--- src/standing.rt:110:1
 returns : tie.Need-returns Inv-loop μ-loop
 returns c = let a = c .before .before .args in
     sym (walked-stays 17 (a .t1) (c .before .loop .at) (c .loop-test .left)) ∙ c .before .loop .inv .1

@@ -1,17 +1,16 @@
+-- `State::find_task` meets its contract: what is left from i on decides.
+-- Assumes nothing.
 use Prim.Native.Nat.{_≤_, _-_}
-use mathlib.Core.Path.{_≡_, refl}
+use mathlib.Core.Path.{refl}
+use native.Mathlib.Omega.{arith}
 use lib.Dec.{eqb}
-use lib.ListN.{take, drop}
 use borrow.Author.Tests.{eq-eqb, ne-eqb}
 use borrow.Author.Needs.{needs}
-use native.Mathlib.Omega.{arith}
-use Rattle.table.specs.Places.{firstPlace, taskPlace}
-use Rattle.table.proofs.PlaceLaws.{Come, come-start, come-hit, come-miss, come-end}
+use Rattle.table.specs.Places.{taskPlace}
+use Rattle.table.proofs.PlaceLaws.{Come, come-hit, come-miss, come-end}
 use Rattle.executive.specs.States.{tasksOf}
 use Rattle.executive.proofs.state.State.find_task.Statement.{statement}
 use Rattle.executive.proofs.state.State.find_task.Tie as tie
-use Rattle.executive.proofs.state.State.find_task.Reads as reads
-use Rattle.executive.proofs.state.State.find_task.Lts as lts
 
 abbrev Inv-loop : tie.InvT-loop
 Inv-loop number self n i₀ i = (i ≤ n) × Come (λ t. eqb (t .number) number) (self .tasks) n i
@@ -19,19 +18,15 @@ Inv-loop number self n i₀ i = (i ≤ n) × Come (λ t. eqb (t .number) number)
 abbrev μ-loop : tie.MeasureT-loop
 μ-loop number self n i₀ i = n - i
 
--- src/lookup.rt:17:9
 loop-holds : tie.Need-loop-holds Inv-loop μ-loop
 loop-holds c = (search needs, refl)
 
--- src/lookup.rt:18:16
 mul-if1 : tie.Need-mul-if1 Inv-loop μ-loop
 mul-if1 c = search needs
 
--- src/lookup.rt:18:16
 element-copy-out-if1 : tie.Need-element-copy-out-if1 Inv-loop μ-loop
 element-copy-out-if1 c = search needs
 
--- src/lookup.rt:19:17
 returns : tie.Need-returns Inv-loop μ-loop
 unfolding taskPlace tasksOf
 returns c =
@@ -40,15 +35,12 @@ returns c =
     (omega arith)
     (eq-eqb _ _ (c .if1 .taken)) (c .before .before .loop .inv .1)
 
--- src/lookup.rt:21:13
 add-i : tie.Need-add-i Inv-loop μ-loop
 add-i c = search needs
 
--- src/lookup.rt:17:9
 loop-less : tie.Need-loop-less Inv-loop μ-loop
 loop-less c = search needs
 
--- src/lookup.rt:17:9
 loop-again : tie.Need-loop-again Inv-loop μ-loop
 loop-again c =
     let a = c .before .before .before .args in (
@@ -58,7 +50,6 @@ loop-again c =
           (ne-eqb _ _ (c .if1 .left)) (c .before .before .loop .inv .1),
     )
 
--- src/lookup.rt:11:5
 returns-2 : tie.Need-returns-2 Inv-loop μ-loop
 unfolding taskPlace tasksOf
 returns-2 c =

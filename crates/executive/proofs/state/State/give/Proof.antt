@@ -1,52 +1,35 @@
-use Prim.Native.Nat.{ℕ, _+_, _<_, _≤_}
-use mathlib.Core.Path.{_≡_, refl, sym, ap, _∙_}
-use mathlib.Core.List.{[], _∷_}
-use native.Mathlib.Omega.{arith}
-use lib.ListN.{getD}
-use borrow.Author.Tests.{eqb-false}
-use Rattle.table.specs.declared.Task.{Task}
-use Rattle.table.specs.declared.Found.the-variants.{At, Nothing}
-use Rattle.table.specs.Entries.{blankTask, blankSem, withStatus, withHolder}
-use Rattle.table.proofs.RefusalLaws.{firstOf-none, firstOf-here, firstOf-past}
-use Rattle.executive.specs.States.{tasksOf, semsOf}
-use Rattle.executive.specs.Waits.{taskAt}
-use Rattle.executive.proofs.CallLaws.{Call, call-none, call-refused, call-done, task-at, sem-at}
-use Rattle.executive.specs.Standing.{runningOf, heirOf}
-use Rattle.executive.proofs.RunLaws.{scanned-runs, runs-below, scanned-heir, heir-below, sem-below, give-none, give-unknown, give-unheld, give-goes}
+-- `State::give` meets its contract: the running task and the heir by the scan, then the entries anew.
+-- Assumes nothing.
+use Prim.Native.Nat.{_<_}
+use mathlib.Core.Path.{_≡_, sym, ap, _∙_}
 use mathlib.Core.Bool.{Bool, true, false, not}
-use mathlib.Core.List.{List}
+use native.Mathlib.Omega.{arith}
+use borrow.Author.Needs.{needs}
+use Rattle.table.specs.declared.Task.{Task}
+use Rattle.table.specs.declared.Found.the-variants.{At}
+use Rattle.table.specs.Entries.{withStatus, withHolder}
 use Rattle.table.specs.declared.Sem.{Sem}
-use Rattle.table.specs.declared.Status.the-variants.{Waits, Ready}
-use Rattle.table.specs.declared.Holder.{Holder}
+use Rattle.table.specs.declared.Status.the-variants.{Ready}
 use Rattle.table.specs.declared.Holder.the-variants.{Free, By}
 use Rattle.table.specs.Places.{semPlace}
 use Rattle.table.specs.declared.Found.{Found}
+use Rattle.executive.specs.States.{tasksOf, semsOf}
+use Rattle.executive.specs.Standing.{runningOf, heirOf}
 use Rattle.executive.specs.Calls.{giveOf, giveAt, handOver, notHeld, holdsIt, nowDoes, nowHeld, moved, withTask, withSem}
-use borrow.Author.Needs.{needs}
+use Rattle.executive.proofs.CallLaws.{task-at, sem-at}
+use Rattle.executive.proofs.RunLaws.{scanned-runs, runs-below, scanned-heir, heir-below, sem-below, give-none, give-unknown, give-unheld, give-goes}
 use Rattle.executive.proofs.state.State.give.Statement.{statement}
 use Rattle.executive.proofs.state.State.give.Tie as tie
-use Rattle.executive.proofs.state.State.give.Reads as reads
-use Rattle.executive.proofs.state.State.give.Lts as lts
-use Rattle.executive.proofs.calls.holds_it.Reads as holds-it-reads
-use Rattle.executive.proofs.standing.met_at.Reads as met-at-reads
-use Rattle.executive.proofs.state.State.find_sem.Reads as find-sem-reads
-use Rattle.executive.proofs.state.State.scan.Reads as scan-reads
-use Rattle.table.proofs.Sem.with_holder.Reads as with-holder-reads
-use Rattle.table.proofs.Task.with_status.Reads as with-status-reads
 
--- src/calls.rt:340:37
 scan-requires : tie.Need-scan-requires
 scan-requires c κs = search needs
 
--- src/calls.rt:340:13
 met-at-requires : tie.Need-met-at-requires
 met-at-requires c κs = search needs
 
--- src/calls.rt:341:23
 enum-known-runs : tie.Need-enum-known-runs
 enum-known-runs c = search needs
 
--- src/calls.rt:343:24
 enum-told : tie.Need-enum-told
 enum-told c = search needs
 
@@ -107,43 +90,34 @@ gives c =
     give-goes (c .before .before .before .before .before .before .before .before .before .before .before .before .before .before .args .t1) (c .before .before .before .before .before .before .before .before .before .before .before .before .before .before .args .number) (c .before .before .before .before .before .before .before .before .before .before .runs .given .0 .0) (runs (c .before .before .before .before .before .before .before .before .before)) (c .before .before .before .before .before .before .found .given .0 .0) (place (c .before .before .before .before .before))
     (unheld (c .before .before .before) false (c .before .before .if1 .left))
 
--- src/calls.rt:342:13
 returns : tie.Need-returns
 unfolding moved
 returns c = let s = c .before .before .before .before .args .t1 in
     sym (give-none s (c .before .before .before .before .args .number) (sym (run (c .before .before)) ∙ c .enum-told .given .1))
 
--- src/calls.rt:347:13
 find-sem-requires : tie.Need-find-sem-requires
 find-sem-requires c κs = c .before .before .before .before .before .pre .sized
 
--- src/calls.rt:348:23
 enum-known-found : tie.Need-enum-known-found
 enum-known-found c = search needs
 
--- src/calls.rt:350:24
 enum-told-2 : tie.Need-enum-told-2
 enum-told-2 c = search needs
 
--- src/calls.rt:349:13
 returns-2 : tie.Need-returns-2
 unfolding moved
 returns-2 c = let s = c .before .before .before .before .before .before .before .before .args .t1 in
     sym (give-unknown s (c .before .before .before .before .before .before .before .before .args .number) (c .before .before .before .before .runs .given .0 .0) (runs (c .before .before .before)) (sym (c .before .before .find-sem .ensures) ∙ c .enum-told2 .given .1))
 
--- src/calls.rt:354:21
 mul-entry : tie.Need-mul-entry
 mul-entry c = omega (arith, small c)
 
--- src/calls.rt:354:21
 element-copy-out-entry : tie.Need-element-copy-out-entry
 element-copy-out-entry c = small c
 
--- src/calls.rt:355:13
 holds-it-requires : tie.Need-holds-it-requires
 holds-it-requires c κs = search needs
 
--- src/calls.rt:356:13
 returns-3 : tie.Need-returns-3
 unfolding moved
 returns-3 c = let s = c .before .before .before .before .before .before .before .before .before .before .before .before .args .t1 in
@@ -151,39 +125,30 @@ returns-3 c = let s = c .before .before .before .before .before .before .before 
     (give-unheld s (c .before .before .before .before .before .before .before .before .before .before .before .before .args .number) (c .before .before .before .before .before .before .before .before .runs .given .0 .0) (runs (c .before .before .before .before .before .before .before)) (c .before .before .before .before .found .given .0 .0) (place (c .before .before .before))
     (unheld (c .before) true (c .if1 .taken)))
 
--- src/calls.rt:361:64
 cast-t24 : tie.Need-cast-t24
 cast-t24 c = omega (arith, small (c .before .before .before))
 
--- src/calls.rt:361:39
 scan-requires-2 : tie.Need-scan-requires-2
 scan-requires-2 c κs = search needs
 
--- src/calls.rt:361:13
 met-at-requires-2 : tie.Need-met-at-requires-2
 met-at-requires-2 c κs = search needs
 
--- src/calls.rt:362:23
 enum-known-waiter : tie.Need-enum-known-waiter
 enum-known-waiter c = search needs
 
--- src/calls.rt:363:46
 enum-told-3 : tie.Need-enum-told-3
 enum-told-3 c = search needs
 
--- src/calls.rt:363:28
 with-holder-requires : tie.Need-with-holder-requires
 with-holder-requires c κs = search needs
 
--- src/calls.rt:363:13
 mul-t27 : tie.Need-mul-t27
 mul-t27 c = omega (arith, small (c .before .before .before .before .before .before .before .before))
 
--- src/calls.rt:363:13
 element-set-from-self : tie.Need-element-set-from-self
 element-set-from-self c = small (c .before .before .before .before .before .before .before .before)
 
--- src/calls.rt:364:13
 returns-4 : tie.Need-returns-4
 unfolding moved giveAt handOver nowHeld withSem
 returns-4 c = let s = c .before .before .before .before .before .before .before .before .before .before .before .before .before .before .before .before .before .args .t1 in
@@ -191,43 +156,33 @@ returns-4 c = let s = c .before .before .before .before .before .before .before 
     ap (λ (x : Sem). moved (withSem s k x) 0) (c .with-holder .ensures ∙ ap (λ (x : Sem). withHolder x Free) (sym (sem-at s k (held (c .before .before .before .before .before .before .before .before)))))
     ∙ sym (gives (c .before .before .before) ∙ ap (λ (f : Found). moved (handOver s k f) 0) (sym (heir (c .before .before .before)) ∙ c .before .enum-told3 .given .1))
 
--- src/calls.rt:369:17
 mul-t : tie.Need-mul-t
 mul-t c = omega (arith, heir-fits c)
 
--- src/calls.rt:369:17
 element-copy-out-t : tie.Need-element-copy-out-t
 element-copy-out-t c = heir-fits c
 
--- src/calls.rt:370:28
 with-status-requires : tie.Need-with-status-requires
 with-status-requires c κs = search needs
 
--- src/calls.rt:370:9
 mul-t17 : tie.Need-mul-t17
 mul-t17 c = omega (arith, heir-fits (c .before .before))
 
--- src/calls.rt:370:9
 element-set-from-self-2 : tie.Need-element-set-from-self-2
 element-set-from-self-2 c = heir-fits (c .before .before)
 
--- src/calls.rt:371:53
 cast-t24-2 : tie.Need-cast-t24-2
 cast-t24-2 c = omega (arith, heir-fits (c .before .before))
 
--- src/calls.rt:371:24
 with-holder-requires-2 : tie.Need-with-holder-requires-2
 with-holder-requires-2 c κs = search needs
 
--- src/calls.rt:371:9
 mul-t17-2 : tie.Need-mul-t17-2
 mul-t17-2 c = omega (arith, small (c .before .before .before .before .before .before .before .before .before .before .before))
 
--- src/calls.rt:371:9
 element-set-from-self-3 : tie.Need-element-set-from-self-3
 element-set-from-self-3 c = small (c .before .before .before .before .before .before .before .before .before .before .before)
 
--- src/calls.rt:336:5
 returns-5 : tie.Need-returns-5
 unfolding moved giveAt handOver nowHeld nowDoes withSem withTask semsOf
 returns-5 c = let s = c .before .before .before .before .before .before .before .before .before .before .before .before .before .before .before .before .before .before .before .before .args .t1 in
