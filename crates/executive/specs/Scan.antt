@@ -102,6 +102,10 @@ unfoldable pub bestFor : List Task → List Sem → Goal → Found → Best
 bestFor tasks sems goal Nothing = noBest
 bestFor tasks sems goal (At w) = asBest (taskAt tasks w) w (metCode (metBy tasks sems goal w))
 
+-- what the scan over the first n tasks hands back
+abbrev pub scanOf : List Task → List Sem → Goal → ℕ → Best
+scanOf tasks sems goal n = bestFor tasks sems goal (winnerOf tasks sems goal n)
+
 -- the task that is met there
 unfoldable pub metFound : Best → Found
 metFound best = cond (ltb (best .met) 64) Nothing (At (best .met - 64))

@@ -1,4 +1,5 @@
-// The calls: each takes the state by value and hands back the next state beside a number. A refusal hands back the very state.
+// The calls: each takes the state by value and hands back the next state beside a number. A refusal hands back the
+// very state.
 ghost use mathlib.Core.Path.{_≡_};
 ghost use mathlib.Core.Bool.{not};
 ghost use mathlib.Core.List.{[], _∷_};
