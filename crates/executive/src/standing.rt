@@ -2,11 +2,11 @@
 // scan over the tasks.
 ghost use mathlib.Core.Path.{_≡_};
 ghost use Prim.Native.Nat.{_<_, _≤_};
-ghost use lib.ListN.{length};
+ghost use lib.Dec.{eqb};
 ghost use Rattle.executive.specs.States.{tasksOf, semsOf};
 ghost use Rattle.executive.specs.Sound.{Sound};
 ghost use Rattle.executive.specs.Waits.{waitsFor};
-ghost use Rattle.executive.specs.Standing.{runningOf, numberAt, shownDeadline};
+ghost use Rattle.executive.specs.Standing.{foundAnd, isReady, runningOf, numberAt, shownDeadline};
 ghost use Rattle.executive.specs.Scan.{takes, semCode, holderLeads, Linked, walked, followed, ledTo};
 ghost use Rattle.executive.specs.Scan.{folded, scanOf, metFound};
 ghost use Rattle.executive.specs.Calls.{standsOf};
@@ -53,7 +53,7 @@ const NO_QUEUE: u64 = 256;
 const FP: u8 = 3;
 
 fn is_ready(status: Status) -> bool
-    ensures { λ r. ⌜ r ≡ takes Goal.Ready status 0 ⌝ }
+    ensures { λ r. ⌜ r ≡ isReady status ⌝ }
 {
     match status {
         Status::Idle => false,
@@ -64,7 +64,7 @@ fn is_ready(status: Status) -> bool
 }
 
 fn waits_for(status: Status, k: u8) -> bool
-    ensures { λ r. ⌜ r ≡ takes (Goal.WaitsFor k) status 0 ⌝ }
+    ensures { λ r. ⌜ r ≡ foundAnd (λ at. eqb at k) (waitsFor status) ⌝ }
 {
     match status {
         Status::Idle => false,

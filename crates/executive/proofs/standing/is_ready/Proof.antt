@@ -1,7 +1,6 @@
 -- `standing::is_ready` meets its contract: by what the task does.
 -- Assumes nothing.
 use borrow.Author.Needs.{needs}
-use Rattle.executive.specs.Scan.{takes}
 use Rattle.executive.specs.Standing.{isReady}
 use Rattle.executive.proofs.standing.is_ready.Statement.{statement}
 use Rattle.executive.proofs.standing.is_ready.Tie as tie
@@ -19,19 +18,19 @@ enum-told-4 : tie.Need-enum-told-4
 enum-told-4 c = search needs
 
 returns : tie.Need-returns
-unfolding takes isReady
+unfolding isReady
 returns c = rw (c .enum-told .given .1)
 
 returns-2 : tie.Need-returns-2
-unfolding takes isReady
+unfolding isReady
 returns-2 c = rw (c .enum-told2 .given .1)
 
 returns-3 : tie.Need-returns-3
-unfolding takes isReady
+unfolding isReady
 returns-3 c = rw (c .enum-told3 .given .1)
 
 returns-4 : tie.Need-returns-4
-unfolding takes isReady
+unfolding isReady
 returns-4 c = rw (c .enum-told4 .given .1)
 
 pub is-ready-spec : {M : Type 1} → statement M

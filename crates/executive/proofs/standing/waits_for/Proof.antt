@@ -1,7 +1,6 @@
 -- `standing::waits_for` meets its contract: by what the task does.
 -- Assumes nothing.
 use borrow.Author.Needs.{needs}
-use Rattle.executive.specs.Scan.{takes}
 use Rattle.executive.specs.Standing.{foundAnd}
 use Rattle.executive.specs.Waits.{waitsFor}
 use Rattle.executive.proofs.standing.waits_for.Statement.{statement}
@@ -20,19 +19,19 @@ enum-known-status : tie.Need-enum-known-status
 enum-known-status c = search needs
 
 returns : tie.Need-returns
-unfolding takes foundAnd waitsFor
+unfolding foundAnd waitsFor
 returns c = rw (c .enum-told .given .1)
 
 returns-2 : tie.Need-returns-2
-unfolding takes foundAnd waitsFor
+unfolding foundAnd waitsFor
 returns-2 c = rw (c .enum-told2 .given .1)
 
 returns-3 : tie.Need-returns-3
-unfolding takes foundAnd waitsFor
+unfolding foundAnd waitsFor
 returns-3 c = rw (c .enum-told3 .given .1)
 
 returns-4 : tie.Need-returns-4
-unfolding takes foundAnd waitsFor
+unfolding foundAnd waitsFor
 returns-4 c = rw (c .before .status .given .1)
 
 pub waits-for-spec : {M : Type 1} → statement M
