@@ -9,3 +9,4 @@ pub mod RunLaws
 pub mod KeepLaws
 pub mod SoundCalls
 pub mod DispatchLaws
+pub mod RefusedLaws
