@@ -3,9 +3,9 @@
 use Prim.Native.Nat.{ℕ}
 use mathlib.Core.Path.{_≡_, refl}
 use mathlib.Core.Logic.{_⊎_, inl, inr}
-use mathlib.Core.List.{List, [], _∷_}
+use mathlib.Core.List.{[], _∷_}
 use borrow.Author.Tests.{eqb-false}
-use Rattle.table.specs.declared.Status.the-variants.{Idle, Ready, Event, Waits}
+use Rattle.table.specs.declared.Status.the-variants.{Ready, Event}
 use Rattle.table.specs.declared.Holder.{Holder}
 use Rattle.table.specs.declared.Holder.the-variants.{Free, By}
 use Rattle.table.specs.declared.Found.{Found}
@@ -15,10 +15,7 @@ use Rattle.executive.specs.declared.calls.Moved.{Moved}
 use Rattle.executive.specs.States.{tasksOf, semsOf}
 use Rattle.executive.specs.Waits.{semAt}
 use Rattle.executive.specs.Standing.{foundOr, runningOf}
-use Rattle.executive.specs.Calls.{
-    nowDoes, moved, isNone, busy, untimely, noEventWait, noSemWait, stillHolds, closesRing, notHeld, releaseAt, takeOrWait, acquireAt, giveAt,
-    completeAt, releaseOf, signalOf, withdrawOf, acquireOf, giveOf, completeOf, blockOf
-}
+use Rattle.executive.specs.Calls.{nowDoes, moved, isNone, busy, untimely, noEventWait, noSemWait, stillHolds, closesRing, notHeld, releaseAt, takeOrWait, acquireAt, giveAt, completeAt, releaseOf, signalOf, withdrawOf, acquireOf, giveOf, completeOf, blockOf}
 use Rattle.executive.proofs.CallLaws.{call-keeps}
 
 -- done, or the very state
@@ -75,6 +72,7 @@ module _ (s : State) where
     where
       at : Found
       at = semPlace (semsOf s) number
+
       go : (i : ℕ) (x : Holder) → ((takeOrWait s i (foundOr 0 at) x) .answer ≡ 90) ⊎ Same s (takeOrWait s i (foundOr 0 at) x)
       go i Free = inr (inl refl)
       go i (By j) = inl refl

@@ -23,6 +23,7 @@ ghost use Rattle.executive.specs.Calls.{
   completeOf,
   blockOf,
 };
+use crate::lookup;
 use crate::standing;
 use crate::standing::Goal;
 use crate::state::State;
@@ -302,7 +303,7 @@ impl State {
                 answer: numbers::NOBODY_RUNS,
             };
         };
-        let found = self.find_sem(number);
+        let found = lookup::sem_place(self.sems, self.m, number);
         let Found::At(k) = found else {
             return Moved {
                 state: self,
@@ -345,7 +346,7 @@ impl State {
                 answer: numbers::NOBODY_RUNS,
             };
         };
-        let found = self.find_sem(number);
+        let found = lookup::sem_place(self.sems, self.m, number);
         let Found::At(k) = found else {
             return Moved {
                 state: self,

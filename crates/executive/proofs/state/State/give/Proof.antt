@@ -48,46 +48,47 @@ fits : (c : tie.After-known-told) → c .before .runs .given .0 .0 < 64
 fits c = let h = below c in let z = c .before .before .before .before .before .pre .sized in omega arith
 
 -- the semaphore is there
-place : (c : tie.After-known-told2) → semPlace (semsOf (c .before .before .before .before .before .before .before .before .before .args .t1)) (c .before .before .before .before .before .before .before .before .before .args .number) ≡ At (c .before .found .given .0 .0)
-place c = sym (c .before .before .before .find-sem .ensures) ∙ c .before .found .given .1
+place : (c : tie.After-known-told2) → semPlace (semsOf (c .before .before .before .before .before .before .before .before .before .before .args .t1)) (c .before .before .before .before .before .before .before .before .before .before .args .number) ≡ At (c .before .found .given .0 .0)
+unfolding semsOf
+place c = sym (c .before .before .before .sem-place .ensures) ∙ c .before .found .given .1
 
-held : (c : tie.After-known-told2) → c .before .found .given .0 .0 < c .before .before .before .before .before .before .before .before .before .args .t1 .m
+held : (c : tie.After-known-told2) → c .before .found .given .0 .0 < c .before .before .before .before .before .before .before .before .before .before .args .t1 .m
 held c =
-    let b = c .before .before .before .before .before .before .before .before .before in
+    let b = c .before .before .before .before .before .before .before .before .before .before in
     sem-below (b .args .t1) (b .pre) (b .args .number) (c .before .found .given .0 .0) (place c)
 
 small : (c : tie.After-known-told2) → c .before .found .given .0 .0 < 16
-small c = let h = held c in let z = c .before .before .before .before .before .before .before .before .before .pre .sized in omega arith
+small c = let h = held c in let z = c .before .before .before .before .before .before .before .before .before .before .pre .sized in omega arith
 
 -- and somebody runs
 runs : (c : tie.After-known-told) → runningOf (tasksOf (c .before .before .before .before .before .args .t1)) (semsOf (c .before .before .before .before .before .args .t1)) ≡ At (c .before .runs .given .0 .0)
 runs c = sym (run (c .before .before .before)) ∙ c .before .runs .given .1
 
 -- the task that the second scan met is the heir
-heir : (c : tie.After-met-at2) → c .met-at2 .result ≡ heirOf (tasksOf (c .before .before .before .before .before .before .before .before .before .before .before .before .before .before .args .t1)) (semsOf (c .before .before .before .before .before .before .before .before .before .before .before .before .before .before .args .t1)) (c .before .before .before .before .before .before .found .given .0 .0)
+heir : (c : tie.After-met-at2) → c .met-at2 .result ≡ heirOf (tasksOf (c .before .before .before .before .before .before .before .before .before .before .before .before .before .before .before .args .t1)) (semsOf (c .before .before .before .before .before .before .before .before .before .before .before .before .before .before .before .args .t1)) (c .before .before .before .before .before .before .found .given .0 .0)
 heir c =
-    scanned-heir (c .before .before .before .before .before .before .before .before .before .before .before .before .before .before .args .t1) (c .before .before .before .before .before .before .before .before .before .before .before .before .before .before .pre) (c .before .before .before .before .before .before .found .given .0 .0) (c .before .scan2 .result) (c .met-at2 .result) (c .before .scan2 .ensures)
+    scanned-heir (c .before .before .before .before .before .before .before .before .before .before .before .before .before .before .before .args .t1) (c .before .before .before .before .before .before .before .before .before .before .before .before .before .before .before .pre) (c .before .before .before .before .before .before .found .given .0 .0) (c .before .scan2 .result) (c .met-at2 .result) (c .before .scan2 .ensures)
     (c .met-at2 .ensures)
 
-heir-there : (c : tie.After-known-told3) → c .before .waiter .given .0 .0 < c .before .before .before .before .before .before .before .before .before .before .before .before .before .before .before .before .before .args .t1 .n
+heir-there : (c : tie.After-known-told3) → c .before .waiter .given .0 .0 < c .before .before .before .before .before .before .before .before .before .before .before .before .before .before .before .before .before .before .args .t1 .n
 heir-there c =
-    heir-below (c .before .before .before .before .before .before .before .before .before .before .before .before .before .before .before .before .before .args .t1) (c .before .before .before .before .before .before .before .before .before .before .before .before .before .before .before .before .before .pre) (c .before .before .before .before .before .before .before .before .before .found .given .0 .0) (c .before .waiter .given .0 .0) (sym (heir (c .before .before .before)) ∙ c .before .waiter .given .1)
+    heir-below (c .before .before .before .before .before .before .before .before .before .before .before .before .before .before .before .before .before .before .args .t1) (c .before .before .before .before .before .before .before .before .before .before .before .before .before .before .before .before .before .before .pre) (c .before .before .before .before .before .before .before .before .before .found .given .0 .0) (c .before .waiter .given .0 .0) (sym (heir (c .before .before .before)) ∙ c .before .waiter .given .1)
 
 heir-fits : (c : tie.After-known-told3) → c .before .waiter .given .0 .0 < 64
-heir-fits c = let h = heir-there c in let z = c .before .before .before .before .before .before .before .before .before .before .before .before .before .before .before .before .before .pre .sized in omega arith
+heir-fits c = let h = heir-there c in let z = c .before .before .before .before .before .before .before .before .before .before .before .before .before .before .before .before .before .before .pre .sized in omega arith
 
 -- whether the caller holds it
-unheld : (c : tie.After-holds-it) (b : Bool) → not (c .holds-it .result) ≡ b → notHeld (semsOf (c .before .before .before .before .before .before .before .before .before .before .before .args .t1)) (c .before .before .before .before .before .before .before .runs .given .0 .0) (c .before .before .before .found .given .0 .0) ≡ b
+unheld : (c : tie.After-holds-it) (b : Bool) → not (c .holds-it .result) ≡ b → notHeld (semsOf (c .before .before .before .before .before .before .before .before .before .before .before .before .args .t1)) (c .before .before .before .before .before .before .before .before .runs .given .0 .0) (c .before .before .before .found .given .0 .0) ≡ b
 unfolding notHeld
 unheld c b e =
-    let s = c .before .before .before .before .before .before .before .before .before .before .before .args .t1 in
+    let s = c .before .before .before .before .before .before .before .before .before .before .before .before .args .t1 in
     let k = c .before .before .before .found .given .0 .0 in
-    ap (λ (x : Sem). not (holdsIt (c .before .before .before .before .before .before .before .runs .given .0 .0) x)) (sem-at s k (held (c .before .before))) ∙ ap not (sym (c .holds-it .ensures)) ∙ e
+    ap (λ (x : Sem). not (holdsIt (c .before .before .before .before .before .before .before .before .runs .given .0 .0) x)) (sem-at s k (held (c .before .before))) ∙ ap not (sym (c .holds-it .ensures)) ∙ e
 
 -- what an accepted give does
-gives : (c : tie.After-met-at2) → giveOf (c .before .before .before .before .before .before .before .before .before .before .before .before .before .before .args .t1) (c .before .before .before .before .before .before .before .before .before .before .before .before .before .before .args .number) ≡ moved (giveAt (c .before .before .before .before .before .before .before .before .before .before .before .before .before .before .args .t1) (c .before .before .before .before .before .before .found .given .0 .0)) 0
+gives : (c : tie.After-met-at2) → giveOf (c .before .before .before .before .before .before .before .before .before .before .before .before .before .before .before .args .t1) (c .before .before .before .before .before .before .before .before .before .before .before .before .before .before .before .args .number) ≡ moved (giveAt (c .before .before .before .before .before .before .before .before .before .before .before .before .before .before .before .args .t1) (c .before .before .before .before .before .before .found .given .0 .0)) 0
 gives c =
-    give-goes (c .before .before .before .before .before .before .before .before .before .before .before .before .before .before .args .t1) (c .before .before .before .before .before .before .before .before .before .before .before .before .before .before .args .number) (c .before .before .before .before .before .before .before .before .before .before .runs .given .0 .0) (runs (c .before .before .before .before .before .before .before .before .before)) (c .before .before .before .before .before .before .found .given .0 .0) (place (c .before .before .before .before .before))
+    give-goes (c .before .before .before .before .before .before .before .before .before .before .before .before .before .before .before .args .t1) (c .before .before .before .before .before .before .before .before .before .before .before .before .before .before .before .args .number) (c .before .before .before .before .before .before .before .before .before .before .before .runs .given .0 .0) (runs (c .before .before .before .before .before .before .before .before .before .before)) (c .before .before .before .before .before .before .found .given .0 .0) (place (c .before .before .before .before .before))
     (unheld (c .before .before .before) false (c .before .before .if1 .left))
 
 returns : tie.Need-returns
@@ -95,8 +96,8 @@ unfolding moved
 returns c = let s = c .before .before .before .before .args .t1 in
     sym (give-none s (c .before .before .before .before .args .number) (sym (run (c .before .before)) ∙ c .enum-told .given .1))
 
-find-sem-requires : tie.Need-find-sem-requires
-find-sem-requires c κs = c .before .before .before .before .before .pre .sized
+sem-place-requires : tie.Need-sem-place-requires
+sem-place-requires c κs = let z = c .before .before .before .before .before .before .pre .sized in omega arith
 
 enum-known-found : tie.Need-enum-known-found
 enum-known-found c = search needs
@@ -105,9 +106,9 @@ enum-told-2 : tie.Need-enum-told-2
 enum-told-2 c = search needs
 
 returns-2 : tie.Need-returns-2
-unfolding moved
-returns-2 c = let s = c .before .before .before .before .before .before .before .before .args .t1 in
-    sym (give-unknown s (c .before .before .before .before .before .before .before .before .args .number) (c .before .before .before .before .runs .given .0 .0) (runs (c .before .before .before)) (sym (c .before .before .find-sem .ensures) ∙ c .enum-told2 .given .1))
+unfolding moved semsOf
+returns-2 c = let s = c .before .before .before .before .before .before .before .before .before .args .t1 in
+    sym (give-unknown s (c .before .before .before .before .before .before .before .before .before .args .number) (c .before .before .before .before .before .runs .given .0 .0) (runs (c .before .before .before .before)) (sym (c .before .before .sem-place .ensures) ∙ c .enum-told2 .given .1))
 
 mul-entry : tie.Need-mul-entry
 mul-entry c = omega (arith, small c)
@@ -120,13 +121,13 @@ holds-it-requires c κs = search needs
 
 returns-3 : tie.Need-returns-3
 unfolding moved
-returns-3 c = let s = c .before .before .before .before .before .before .before .before .before .before .before .before .args .t1 in
+returns-3 c = let s = c .before .before .before .before .before .before .before .before .before .before .before .before .before .args .t1 in
     sym
-    (give-unheld s (c .before .before .before .before .before .before .before .before .before .before .before .before .args .number) (c .before .before .before .before .before .before .before .before .runs .given .0 .0) (runs (c .before .before .before .before .before .before .before)) (c .before .before .before .before .found .given .0 .0) (place (c .before .before .before))
+    (give-unheld s (c .before .before .before .before .before .before .before .before .before .before .before .before .before .args .number) (c .before .before .before .before .before .before .before .before .before .runs .given .0 .0) (runs (c .before .before .before .before .before .before .before .before)) (c .before .before .before .before .found .given .0 .0) (place (c .before .before .before))
     (unheld (c .before) true (c .if1 .taken)))
 
-cast-t24 : tie.Need-cast-t24
-cast-t24 c = omega (arith, small (c .before .before .before))
+cast-t25 : tie.Need-cast-t25
+cast-t25 c = omega (arith, small (c .before .before .before))
 
 scan-requires-2 : tie.Need-scan-requires-2
 scan-requires-2 c κs = search needs
@@ -143,15 +144,15 @@ enum-told-3 c = search needs
 with-holder-requires : tie.Need-with-holder-requires
 with-holder-requires c κs = search needs
 
-mul-t27 : tie.Need-mul-t27
-mul-t27 c = omega (arith, small (c .before .before .before .before .before .before .before .before))
+mul-t28 : tie.Need-mul-t28
+mul-t28 c = omega (arith, small (c .before .before .before .before .before .before .before .before))
 
 element-set-from-self : tie.Need-element-set-from-self
 element-set-from-self c = small (c .before .before .before .before .before .before .before .before)
 
 returns-4 : tie.Need-returns-4
 unfolding moved giveAt handOver nowHeld withSem
-returns-4 c = let s = c .before .before .before .before .before .before .before .before .before .before .before .before .before .before .before .before .before .args .t1 in
+returns-4 c = let s = c .before .before .before .before .before .before .before .before .before .before .before .before .before .before .before .before .before .before .args .t1 in
     let k = c .before .before .before .before .before .before .before .before .before .found .given .0 .0 in
     ap (λ (x : Sem). moved (withSem s k x) 0) (c .with-holder .ensures ∙ ap (λ (x : Sem). withHolder x Free) (sym (sem-at s k (held (c .before .before .before .before .before .before .before .before)))))
     ∙ sym (gives (c .before .before .before) ∙ ap (λ (f : Found). moved (handOver s k f) 0) (sym (heir (c .before .before .before)) ∙ c .before .enum-told3 .given .1))
@@ -171,8 +172,8 @@ mul-t17 c = omega (arith, heir-fits (c .before .before))
 element-set-from-self-2 : tie.Need-element-set-from-self-2
 element-set-from-self-2 c = heir-fits (c .before .before)
 
-cast-t24-2 : tie.Need-cast-t24-2
-cast-t24-2 c = omega (arith, heir-fits (c .before .before))
+cast-t25-2 : tie.Need-cast-t25-2
+cast-t25-2 c = omega (arith, heir-fits (c .before .before))
 
 with-holder-requires-2 : tie.Need-with-holder-requires-2
 with-holder-requires-2 c κs = search needs
@@ -185,7 +186,7 @@ element-set-from-self-3 c = small (c .before .before .before .before .before .be
 
 returns-5 : tie.Need-returns-5
 unfolding moved giveAt handOver nowHeld nowDoes withSem withTask semsOf
-returns-5 c = let s = c .before .before .before .before .before .before .before .before .before .before .before .before .before .before .before .before .before .before .before .before .args .t1 in
+returns-5 c = let s = c .before .before .before .before .before .before .before .before .before .before .before .before .before .before .before .before .before .before .before .before .before .args .t1 in
     let k = c .before .before .before .before .before .before .before .before .before .before .before .before .found .given .0 .0 in
     let w = c .before .before .before .before .waiter .given .0 .0 in
     ap (λ (t : Task). moved (withSem (withTask s w t) k (c .with-holder2 .result)) 0)
@@ -203,7 +204,7 @@ give-spec =
     enum-known-runs
     enum-told
     returns
-    find-sem-requires
+    sem-place-requires
     enum-known-found
     enum-told-2
     returns-2
@@ -211,13 +212,13 @@ give-spec =
     element-copy-out-entry
     holds-it-requires
     returns-3
-    cast-t24
+    cast-t25
     scan-requires-2
     met-at-requires-2
     enum-known-waiter
     enum-told-3
     with-holder-requires
-    mul-t27
+    mul-t28
     element-set-from-self
     returns-4
     mul-t
@@ -225,7 +226,7 @@ give-spec =
     with-status-requires
     mul-t17
     element-set-from-self-2
-    cast-t24-2
+    cast-t25-2
     with-holder-requires-2
     mul-t17-2
     element-set-from-self-3
