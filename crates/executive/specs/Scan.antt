@@ -14,7 +14,7 @@ use Rattle.executive.specs.declared.standing.Goal.{Goal}
 use Rattle.executive.specs.declared.standing.Goal.the-variants.{Ready, Is, WaitsFor}
 use Rattle.executive.specs.declared.standing.Best.{Best}
 use Rattle.executive.specs.Waits.{taskAt, semAt, waitsFor, heldBy, waitsOn}
-use Rattle.executive.specs.Standing.{Rank, foundAnd, ownOf, shownDeadline, bestAmong, isReady}
+use Rattle.executive.specs.Standing.{foundAnd, ownOf, shownDeadline, bestAmong, isReady}
 
 -- the goal takes a task that does this at this position
 unfoldable pub takes : Goal → Status → ℕ → Bool

@@ -7,7 +7,7 @@ ghost use Prim.Native.Nat.{_+_, _≤_};
 ghost use Rattle.table.specs.Refusals.{firstOf};
 ghost use Rattle.table.specs.Entries.{spanOf, withStatus, withDeadline};
 ghost use Rattle.executive.specs.States.{semsOf};
-ghost use Rattle.executive.specs.Waits.{waitsFor, heldBy};
+ghost use Rattle.executive.specs.Waits.{waitsFor};
 ghost use Rattle.executive.specs.Sound.{Sized, Sound};
 ghost use Rattle.executive.specs.Standing.{isIdle, isEvent};
 ghost use Rattle.executive.specs.Calls.{
@@ -35,6 +35,7 @@ use table::Task;
 use table::limits;
 use table::numbers;
 
+// What a call hands back: the next state and a number of document 01.
 pub struct Moved {
     pub state: State,
     pub answer: u8,
