@@ -1,9 +1,9 @@
 -- What 01, "Dispatch", says of standings and of the running task, over every sound state: the computed standing is the one over the closure of
 -- waits, and the only one; a ready task of best standing runs, and nobody exactly if none is ready; no two ready tasks share a standing.
 -- Assumes nothing.
-use Prim.Native.Nat.{ℕ, zero, suc, _≤_, _<_}
-use mathlib.Core.Path.{_≡_, refl, sym, ap, subst, _∙_}
-use mathlib.Core.Bool.{Bool, true, false}
+use Prim.Native.Nat.{ℕ, _≤_, _<_}
+use mathlib.Core.Path.{_≡_, refl, ap, _∙_}
+use mathlib.Core.Bool.{true, false}
 use mathlib.Core.List.{List}
 use native.Mathlib.Omega.{arith}
 use lib.ListN.{length}
@@ -14,13 +14,13 @@ use Rattle.table.specs.declared.Found.the-variants.{At, Nothing}
 use Rattle.executive.specs.declared.state.State.{State}
 use Rattle.executive.specs.declared.standing.Goal.{Goal}
 use Rattle.executive.specs.States.{tasksOf, semsOf}
-use Rattle.executive.specs.Waits.{waitsOn, Ends}
+use Rattle.executive.specs.Waits.{waitsOn}
 use Rattle.executive.specs.Sound.{Sound}
 use Rattle.executive.specs.Standing.{Rank, ownOf, better, standingOf, readyAt, runningOf, numberAt}
 use Rattle.executive.specs.Reaches.{Reaches, IsStanding}
 use Rattle.executive.specs.Scan.{takenAt, takes}
-use Rattle.executive.proofs.RankLaws.{better-total, IsBest, best-none, best-some, best-nothing}
-use Rattle.executive.proofs.ChainLaws.{Long, chained, chain, on-held, tasks-length, sems-length, reached-below, reaches-true, true-reaches}
+use Rattle.executive.proofs.RankLaws.{better-total, best-none, best-nothing}
+use Rattle.executive.proofs.ChainLaws.{Long, chained, chain, on-held, tasks-length, sems-length, reaches-true, true-reaches}
 use Rattle.executive.proofs.SoundLaws.{ranges}
 use Rattle.executive.proofs.StandingLaws.{standing-at, taken-once, apart-ready}
 use Rattle.executive.proofs.RunLaws.{runs-is, runs-below}

@@ -1,21 +1,20 @@
 -- Each call keeps a sound state sound.
 -- Assumes nothing.
-use Prim.Native.Nat.{ℕ, zero, suc, _+_, _-_, _≤_, _<_}
+use Prim.Native.Nat.{ℕ, _≤_, _<_}
 use mathlib.Core.Path.{_≡_, refl, sym, ap, subst, _∙_}
 use mathlib.Core.Logic.{_≢_, _⊎_, inl, inr, ⊎-elim}
-use mathlib.Core.Bool.{Bool, true, false, cond, not, _&&_, _||_}
-use mathlib.Core.List.{List, [], _∷_}
+use mathlib.Core.Bool.{Bool, true, false}
+use mathlib.Core.List.{List}
 use native.Mathlib.Omega.{arith}
-use lib.Dec.{ltb, eqb}
-use lib.ListN.{length, getD, take, drop, set, replicate, length-set}
-use lib.Seq.{getD-set-same, getD-set-other, getD-take, take-set-lt, drop-set-lt, length-take-le}
+use lib.Dec.{eqb}
+use lib.ListN.{getD, set, length-set}
+use lib.Seq.{getD-set-same, getD-set-other, take-set-lt, drop-set-lt}
 use borrow.Author.Tests.{eqb-true, eqb-false}
 use Rattle.table.specs.declared.Task.{Task}
 use Rattle.table.specs.declared.Sem.{Sem}
 use Rattle.table.specs.declared.Status.{Status}
-use Rattle.table.specs.declared.Status.the-variants.{Idle, Ready, Event, Waits}
+use Rattle.table.specs.declared.Status.the-variants.{Idle}
 use Rattle.table.specs.declared.Holder.{Holder}
-use Rattle.table.specs.declared.Holder.the-variants.{Free, By}
 use Rattle.table.specs.declared.Found.{Found}
 use Rattle.table.specs.declared.Found.the-variants.{At, Nothing}
 use Rattle.table.specs.Entries.{blankTask, blankSem, withStatus, withDeadline, withHolder}
@@ -24,9 +23,9 @@ use Rattle.table.proofs.OrderLaws.{well-formed-task, well-formed-sem}
 use Rattle.executive.specs.declared.state.State.{State}
 use Rattle.executive.specs.States.{emptyState, tasksOf, semsOf}
 use Rattle.executive.specs.Waits.{taskAt, semAt, waitsFor, heldBy, holderOf, waitsOn, Ends}
-use Rattle.executive.specs.Sound.{Sized, Sound}
+use Rattle.executive.specs.Sound.{Sound}
 use Rattle.executive.specs.Reaches.{Reaches}
-use Rattle.executive.specs.Calls.{withTask, withSem, withLast, nowDoes, nowHeld}
+use Rattle.executive.specs.Calls.{withTask, withSem}
 use Rattle.executive.proofs.ChainLaws.{tasks-length, sems-length, waits-held, waits-none}
 use Rattle.executive.proofs.StandingLaws.{waits-below}
 

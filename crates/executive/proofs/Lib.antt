@@ -10,3 +10,4 @@ pub mod RunLaws
 pub mod KeepLaws
 pub mod SoundCalls
 pub mod DispatchLaws
+pub mod RefusedLaws

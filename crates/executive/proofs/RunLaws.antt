@@ -1,19 +1,14 @@
 -- The laws of the calls that the running task makes, over a sound state: what the scan hands back is the running task, the heir, the standing,
 -- and the ring that an acquire would close.
 -- Assumes nothing.
-use Prim.Native.Nat.{ℕ, zero, suc, _+_, _-_, _≤_, _<_}
+use Prim.Native.Nat.{ℕ, suc, _+_, _≤_, _<_}
 use mathlib.Core.Path.{_≡_, refl, sym, ap, subst, _∙_}
-use mathlib.Core.Bool.{Bool, true, false, cond, not, _&&_, _||_}
+use mathlib.Core.Bool.{Bool, true, false}
 use mathlib.Core.List.{List, [], _∷_}
 use native.Mathlib.Omega.{arith}
 use lib.Dec.{ltb, eqb}
-use lib.ListN.{length, getD}
-use borrow.Author.Tests.{lt-ltb, le-ltb, eq-eqb, ne-eqb, ltb-true, ltb-false, eqb-true, eqb-false}
-use Rattle.table.specs.declared.Task.{Task}
-use Rattle.table.specs.declared.Sem.{Sem}
-use Rattle.table.specs.declared.Holder.{Holder}
-use Rattle.table.specs.declared.Holder.the-variants.{Free, By}
-use Rattle.table.specs.declared.Status.the-variants.{Waits}
+use lib.ListN.{length}
+use borrow.Author.Tests.{lt-ltb, le-ltb, eq-eqb, eqb-true, eqb-false}
 use Rattle.table.specs.declared.Found.{Found}
 use Rattle.table.specs.declared.Found.the-variants.{At, Nothing}
 use Rattle.table.specs.Entries.{blankTask, blankSem}
@@ -26,60 +21,17 @@ use Rattle.executive.specs.declared.standing.Goal.{Goal}
 use Rattle.executive.specs.declared.standing.Goal.the-variants.{Is, WaitsFor}
 use Rattle.executive.specs.declared.standing.Best.{Best}
 use Rattle.executive.specs.States.{tasksOf, semsOf}
-use Rattle.executive.specs.Waits.{taskAt, semAt, waitsFor, heldBy}
+use Rattle.executive.specs.Waits.{semAt, heldBy}
 use Rattle.executive.specs.Sound.{Sound}
-use Rattle.executive.specs.Standing.{
-  Rank,
-  foundAnd,
-  foundOr,
-  ownOf,
-  reaches,
-  bestAmong,
-  standingOf,
-  readyAt,
-  waiterAt,
-  runningOf,
-  heirOf,
-}
+use Rattle.executive.specs.Standing.{foundAnd, foundOr, ownOf, reaches, bestAmong, standingOf, readyAt, waiterAt, runningOf, heirOf}
 use Rattle.executive.specs.Reaches.{Reaches}
-use Rattle.executive.specs.Scan.{
-  walked,
-  takes,
-  takenAt,
-  ledBy,
-  Linked,
-  meets,
-  metBy,
-  metCode,
-  winnerOf,
-  bestFor,
-  asBest,
-  metFound,
-}
-use Rattle.executive.specs.Calls.{
-  isNone,
-  moved,
-  closesRing,
-  notHeld,
-  acquireAt,
-  giveAt,
-  acquireOf,
-  giveOf,
-}
-use Rattle.executive.proofs.CallLaws.{Call, call-none, call-refused, call-done}
-use Rattle.executive.proofs.RankLaws.{IsBest, best-is, best-some, best-same}
-use Rattle.executive.proofs.ChainLaws.{Chained, Long, chained, chain, tasks-length, sems-length, reaches-true, true-reaches}
+use Rattle.executive.specs.Scan.{walked, takes, takenAt, ledBy, Linked, meets, metBy, metCode, winnerOf, bestFor, asBest, metFound}
+use Rattle.executive.specs.Calls.{isNone, moved, closesRing, notHeld, acquireAt, giveAt, acquireOf, giveOf}
+use Rattle.executive.proofs.CallLaws.{call-none, call-refused, call-done}
+use Rattle.executive.proofs.RankLaws.{IsBest, best-is, best-same}
+use Rattle.executive.proofs.ChainLaws.{Chained, chained, chain, tasks-length, sems-length, reaches-true}
 use Rattle.executive.proofs.ScanLaws.{meets-is, Apart, walked-step, walked-stays, walked-meets}
-use Rattle.executive.proofs.StandingLaws.{
-  some-found,
-  found-some,
-  apart-ready,
-  apart-is,
-  apart-waits,
-  standing-at,
-  reached-met,
-  scan-found,
-}
+use Rattle.executive.proofs.StandingLaws.{found-some, apart-ready, apart-is, apart-waits, standing-at, reached-met, scan-found}
 
 -- the place that a number was found at has an entry
 pub task-below : (s : State) → Sound s → (number i : ℕ) → taskPlace (tasksOf s) number ≡ At i → i < s .n

@@ -1,9 +1,9 @@
 -- The laws of the scan: what the table of links leads to, and what the fold over the tasks keeps.
 -- Assumes nothing.
-use Prim.Native.Nat.{ℕ, zero, suc, _+_, _-_, _≤_, _<_}
+use Prim.Native.Nat.{ℕ, zero, suc, _+_, _≤_, _<_}
 use mathlib.Core.Path.{_≡_, refl, sym, ap, subst, _∙_}
 use mathlib.Core.Bool.{Bool, true, false, cond, _&&_, _||_}
-use mathlib.Core.List.{List, [], _∷_}
+use mathlib.Core.List.{List}
 use native.Mathlib.Omega.{arith}
 use lib.Dec.{ltb, eqb}
 use lib.ListN.{length, getD, set, length-set}
@@ -15,59 +15,17 @@ use Rattle.table.specs.declared.Holder.{Holder}
 use Rattle.table.specs.declared.Holder.the-variants.{Free, By}
 use Rattle.table.specs.declared.Found.{Found}
 use Rattle.table.specs.declared.Found.the-variants.{At, Nothing}
-use Rattle.table.specs.declared.Status.{Status}
 use Rattle.table.specs.Entries.{blankTask, blankSem}
 use Rattle.executive.specs.declared.state.State.{State}
 use Rattle.executive.specs.declared.standing.Goal.{Goal}
-use Rattle.executive.specs.declared.standing.Best.{Best}
 use Rattle.executive.specs.States.{tasksOf, semsOf}
 use Rattle.executive.specs.Waits.{taskAt, semAt, waitsFor, heldBy, waitsOn}
 use Rattle.executive.specs.Sound.{Sound}
-use Rattle.executive.specs.Standing.{Rank, foundAnd, foundOr, ownOf, shownDeadline, better, reaches, preferred, bestAmong, standingOf}
+use Rattle.executive.specs.Standing.{foundAnd, ownOf, shownDeadline, better, preferred, bestAmong}
 use Rattle.executive.specs.Reaches.{Reaches}
-use Rattle.executive.specs.Scan.{
-  walked,
-  followed,
-  takes,
-  takenAt,
-  holderLeads,
-  ledBy,
-  Linked,
-  ledTo,
-  onward,
-  meets,
-  metBy,
-  semCode,
-  metCode,
-  noBest,
-  asBest,
-  folded,
-  winnerOf,
-  bestFor,
-  metFound,
-}
-use Rattle.executive.proofs.RankLaws.{
-  own-once,
-  IsBest,
-  best-is,
-  best-none,
-  best-some,
-  best-nothing,
-  best-only,
-  better-irrefl,
-}
-use Rattle.executive.proofs.ChainLaws.{
-  Chained,
-  Long,
-  waits-held,
-  waits-none,
-  on-held,
-  chain,
-  long-bound,
-  reached-below,
-  reaches-true,
-  true-reaches,
-}
+use Rattle.executive.specs.Scan.{walked, followed, takes, takenAt, holderLeads, ledBy, Linked, ledTo, onward, meets, metBy, semCode, metCode, noBest, asBest, folded, winnerOf, bestFor}
+use Rattle.executive.proofs.RankLaws.{best-is}
+use Rattle.executive.proofs.ChainLaws.{Chained, Long, waits-held, waits-none, chain}
 use Rattle.executive.proofs.CallLaws.{task-at, sem-at}
 
 -- one step along the table, and none from where no semaphore is
@@ -79,6 +37,26 @@ pub walked-stays : (steps : ℕ) (link : List ℕ) (at : ℕ) → 16 ≤ at → 
 unfolding walked
 walked-stays zero link at h = refl
 walked-stays (suc steps) link at h = rw (le-ltb at 16 h)
+
+-- steps that are left until no semaphore is reached
+unfoldable pub left : ℕ → List ℕ → ℕ → ℕ
+left zero link at = 0
+left (suc steps) link at = cond (ltb at 16) (suc (left steps link (getD link at 0))) 0
+
+-- a walk that has come to its end goes no further with more steps
+pub walked-more : (steps : ℕ) (link : List ℕ) (at : ℕ) → 16 ≤ walked steps link at
+    → (walked (suc steps) link at ≡ walked steps link at) × (left (suc steps) link at ≡ left steps link at)
+unfolding walked left
+walked-more zero link at h = (rw (le-ltb at 16 h), rw (le-ltb at 16 h))
+walked-more (suc steps) link at h = go (ltb at 16) refl h (walked-more steps link (getD link at 0))
+  where
+    go : (b : Bool) → ltb at 16 ≡ b → 16 ≤ cond b (walked steps link (getD link at 0)) at
+        → (16 ≤ walked steps link (getD link at 0)
+        → (walked (suc steps) link (getD link at 0) ≡ walked steps link (getD link at 0))
+        × (left (suc steps) link (getD link at 0) ≡ left steps link (getD link at 0)))
+        → (walked (suc (suc steps)) link at ≡ walked (suc steps) link at) × (left (suc (suc steps)) link at ≡ left (suc steps) link at)
+    go true e h rec = let r = rec h in (rw e (r .0), rw e (ap suc (r .1)))
+    go false e h rec = (rw e, rw e)
 
 -- a table that is filled from the front, with one entry more
 pub table-more : (link next : List ℕ) (k v : ℕ) (f : ℕ → ℕ) → length link ≡ 16 → k < 16 → next ≡ set link k v → v ≡ f k
@@ -187,6 +165,38 @@ module _ (tasks : List Task) (sems : List Sem) (goal : Goal) where
           → walked steps link (ledBy tasks goal (At j)) ≡ metCode (meets tasks sems goal (suc fuel) j)
       goes true e rec = rw e (walked-stays steps link (64 + j) (omega arith))
       goes false e rec = rw (e, v, waits-held tasks sems j at v ∙ by) rec
+
+  -- so the walk comes to its end
+  met-ends : (f : Found) → 16 ≤ metCode f
+  unfolding metCode
+  met-ends Nothing = omega arith
+  met-ends (At e) = omega arith
+
+  pub walk-ends : Chained tasks sems → (link : List ℕ) → Linked tasks sems goal link → length sems ≤ 16 → (k : ℕ) → k < length sems
+      → 16 ≤ walked 17 link k
+  unfolding ledBy
+  walk-ends c link linked small k hk = go (heldBy ((semAt sems k) .holder)) refl
+    where
+      go : (f : Found) → heldBy ((semAt sems k) .holder) ≡ f → 16 ≤ walked 17 link k
+      go Nothing e =
+          rw
+          (walked-step 16 link k (omega arith)
+          ∙ ap (walked 16 link) (linked .leads k hk ∙ ap (ledBy tasks goal) e)
+          ∙ walked-stays 16 link 32 (omega arith))
+          (omega arith)
+      go (At j) e =
+          let l = chain tasks sems c j (c .held k hk j e) in
+          let b = l .2 in
+          rw (walked-meets c link linked small 17 17 k hk e (l .1) (omega arith) (omega arith)) (met-ends (meets tasks sems goal 17 j))
+
+  pub follow-ends : Chained tasks sems → (link : List ℕ) → Linked tasks sems goal link → length sems ≤ 16 → (i : ℕ) → i < length tasks
+      → 16 ≤ followed link (waitsFor ((taskAt tasks i) .status))
+  unfolding followed
+  follow-ends c link linked small i h = go (waitsFor ((taskAt tasks i) .status)) refl
+    where
+      go : (f : Found) → waitsFor ((taskAt tasks i) .status) ≡ f → 16 ≤ followed link (waitsFor ((taskAt tasks i) .status))
+      go Nothing e = rw e (omega arith)
+      go (At k) e = rw e (walk-ends c link linked small k (c .waits i h k e .0))
 
   -- the table followed from a task on leads to what it meets
   pub led-met : Chained tasks sems → (link : List ℕ) → Linked tasks sems goal link → length sems ≤ 16 → (i : ℕ) → i < length tasks

@@ -1,13 +1,13 @@
 -- Each call, accepted or refused, hands back a sound state where it was given one.
 -- Assumes nothing.
-use Prim.Native.Nat.{ℕ, zero, suc, _+_, _≤_, _<_}
+use Prim.Native.Nat.{ℕ, _+_, _≤_, _<_}
 use mathlib.Core.Path.{_≡_, refl, sym, ap, subst, _∙_}
 use mathlib.Core.Logic.{_≢_}
-use mathlib.Core.Bool.{Bool, true, false, not}
-use mathlib.Core.List.{List, [], _∷_}
+use mathlib.Core.Bool.{true, false}
+use mathlib.Core.List.{[], _∷_}
 use native.Mathlib.Omega.{arith}
 use lib.Dec.{eqb}
-use lib.ListN.{length, getD}
+use lib.ListN.{length}
 use borrow.Author.Tests.{eq-eqb, eqb-false}
 use Rattle.table.specs.declared.Task.{Task}
 use Rattle.table.specs.declared.Sem.{Sem}
@@ -18,47 +18,16 @@ use Rattle.table.specs.declared.Holder.the-variants.{Free, By}
 use Rattle.table.specs.declared.Found.{Found}
 use Rattle.table.specs.declared.Found.the-variants.{At, Nothing}
 use Rattle.table.specs.Entries.{blankSem, spanOf, withStatus, withDeadline, withHolder}
-use Rattle.table.specs.Refusals.{firstOf}
 use Rattle.table.specs.Places.{taskPlace, semPlace}
 use Rattle.table.proofs.SumLaws.{any-none}
 use Rattle.table.proofs.RefusalLaws.{firstOf-zero}
 use Rattle.executive.specs.declared.state.State.{State}
 use Rattle.executive.specs.declared.calls.Moved.{Moved}
 use Rattle.executive.specs.States.{tasksOf, semsOf}
-use Rattle.executive.specs.Waits.{taskAt, semAt, waitsFor, heldBy, waitsOn, Ends}
+use Rattle.executive.specs.Waits.{taskAt, semAt, waitsFor, heldBy, Ends}
 use Rattle.executive.specs.Sound.{Sound}
 use Rattle.executive.specs.Standing.{foundAnd, foundOr, isReady, readyAt, waiterAt, reaches, runningOf, heirOf, standingOf}
-use Rattle.executive.specs.Reaches.{Reaches}
-use Rattle.executive.specs.Calls.{
-  withTask,
-  withSem,
-  withLast,
-  nowDoes,
-  nowHeld,
-  moved,
-  isNone,
-  busy,
-  untimely,
-  noEventWait,
-  noSemWait,
-  holdsIt,
-  stillHolds,
-  closesRing,
-  notHeld,
-  releaseAt,
-  takeOrWait,
-  acquireAt,
-  handOver,
-  giveAt,
-  completeAt,
-  releaseOf,
-  signalOf,
-  withdrawOf,
-  acquireOf,
-  giveOf,
-  completeOf,
-  blockOf,
-}
+use Rattle.executive.specs.Calls.{withTask, withSem, withLast, nowDoes, nowHeld, moved, isNone, busy, untimely, noEventWait, noSemWait, holdsIt, stillHolds, closesRing, notHeld, releaseAt, takeOrWait, acquireAt, handOver, giveAt, completeAt, releaseOf, signalOf, withdrawOf, acquireOf, giveOf, completeOf, blockOf}
 use Rattle.executive.proofs.CallLaws.{call-keeps, release-timely}
 use Rattle.executive.proofs.RankLaws.{best-none}
 use Rattle.executive.proofs.ChainLaws.{chained, tasks-length, sems-length, waits-held, waits-none, reaches-true}

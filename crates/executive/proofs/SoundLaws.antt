@@ -1,19 +1,13 @@
 -- What a sound state says of one of its tasks, and that each call keeps a sound state sound.
 -- Assumes nothing.
-use Prim.Native.Nat.{ℕ, zero, suc, _+_, _-_, _≤_, _<_}
-use mathlib.Core.Path.{_≡_, refl, sym, ap, subst, _∙_}
-use mathlib.Core.Bool.{Bool, true, false, cond, not, _&&_, _||_}
-use mathlib.Core.List.{List, [], _∷_}
+use Prim.Native.Nat.{ℕ, _≤_, _<_}
 use native.Mathlib.Omega.{arith}
-use lib.ListN.{length, getD}
-use Rattle.table.specs.declared.Task.{Task}
-use Rattle.table.specs.declared.Sem.{Sem}
-use Rattle.table.specs.Entries.{blankTask, blankSem}
-use Rattle.table.specs.WellFormed.{WellFormed, taskInRange}
+use Rattle.table.specs.Entries.{blankTask}
+use Rattle.table.specs.WellFormed.{taskInRange}
 use Rattle.table.proofs.SumLaws.{every-at}
 use Rattle.table.proofs.OrderLaws.{TaskRange, task-range}
 use Rattle.executive.specs.declared.state.State.{State}
-use Rattle.executive.specs.States.{tasksOf, semsOf}
+use Rattle.executive.specs.States.{tasksOf}
 use Rattle.executive.specs.Waits.{taskAt}
 use Rattle.executive.specs.Sound.{Sound}
 use Rattle.executive.proofs.ChainLaws.{tasks-length}

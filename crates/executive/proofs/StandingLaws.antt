@@ -1,13 +1,13 @@
 -- The laws of standing: what is computed is the standing of the closure, and the one scan finds the task of best standing.
 -- Assumes nothing.
-use Prim.Native.Nat.{ℕ, zero, suc, _+_, _-_, _≤_, _<_}
+use Prim.Native.Nat.{ℕ, suc, _+_, _≤_, _<_}
 use mathlib.Core.Path.{_≡_, refl, sym, ap, subst, _∙_}
-use mathlib.Core.Bool.{Bool, true, false, cond, not, _&&_, _||_}
+use mathlib.Core.Bool.{Bool, true, false}
 use mathlib.Core.List.{List}
 use native.Mathlib.Omega.{arith}
 use lib.Dec.{ltb, eqb}
-use lib.ListN.{length, getD, List·getD-eq-default}
-use borrow.Author.Tests.{lt-ltb, le-ltb, eq-eqb, ne-eqb, ltb-true, ltb-false, eqb-true, eqb-false}
+use lib.ListN.{length, List·getD-eq-default}
+use borrow.Author.Tests.{le-ltb, ltb-true, ltb-false, eqb-true}
 use Rattle.table.specs.declared.Task.{Task}
 use Rattle.table.specs.declared.Sem.{Sem}
 use Rattle.table.specs.declared.Status.{Status}
@@ -17,66 +17,13 @@ use Rattle.table.specs.declared.Found.the-variants.{At, Nothing}
 use Rattle.table.specs.Entries.{blankTask}
 use Rattle.executive.specs.declared.standing.Goal.{Goal}
 use Rattle.executive.specs.declared.standing.Goal.the-variants.{Is, WaitsFor}
-use Rattle.executive.specs.Waits.{taskAt, semAt, waitsFor, heldBy, waitsOn}
-use Rattle.executive.specs.Standing.{
-  Rank,
-  foundAnd,
-  foundOr,
-  ownOf,
-  better,
-  reaches,
-  preferred,
-  bestAmong,
-  standingOf,
-  isReady,
-  readyAt,
-  waiterAt,
-  runningOf,
-  heirOf,
-}
-use Rattle.executive.specs.Reaches.{Reaches, IsStanding}
-use Rattle.executive.specs.Scan.{
-  walked,
-  takes,
-  takenAt,
-  ledBy,
-  Linked,
-  onward,
-  meets,
-  metBy,
-  metCode,
-  winnerOf,
-  bestFor,
-  noBest,
-  asBest,
-  metFound,
-}
-use Rattle.executive.specs.Calls.{closesRing}
-use Rattle.executive.proofs.RankLaws.{
-  better-total,
-  own-once,
-  IsBest,
-  best-is,
-  best-none,
-  best-some,
-  best-nothing,
-  best-only,
-}
-use Rattle.executive.proofs.ChainLaws.{
-  Chained,
-  Long,
-  waits-held,
-  waits-none,
-  on-held,
-  long,
-  long-once,
-  chain,
-  long-bound,
-  reached-below,
-  reaches-true,
-  true-reaches,
-}
-use Rattle.executive.proofs.ScanLaws.{meets-is, Apart, is-met, walked-step, walked-stays, walked-meets}
+use Rattle.executive.specs.Waits.{taskAt, semAt, waitsFor, heldBy}
+use Rattle.executive.specs.Standing.{foundAnd, foundOr, ownOf, reaches, bestAmong, standingOf, isReady}
+use Rattle.executive.specs.Reaches.{Reaches}
+use Rattle.executive.specs.Scan.{takes, takenAt, onward, metBy, metCode, winnerOf, bestFor, noBest, asBest, metFound}
+use Rattle.executive.proofs.RankLaws.{better-total, own-once, IsBest, best-is, best-none, best-some, best-nothing, best-only}
+use Rattle.executive.proofs.ChainLaws.{Chained, Long, waits-held, waits-none, on-held, long-once, chain, reached-below, reaches-true, true-reaches}
+use Rattle.executive.proofs.ScanLaws.{meets-is, Apart, is-met}
 
 -- something was found, or nothing
 pub some-found : (f : Found) → foundAnd (λ _. true) f ≡ true → (i : ℕ) × (f ≡ At i)

@@ -14,7 +14,7 @@ use Rattle.executive.specs.declared.standing.Goal.{Goal}
 use Rattle.executive.specs.declared.standing.Goal.the-variants.{Ready, Is, WaitsFor}
 use Rattle.executive.specs.declared.standing.Best.{Best}
 use Rattle.executive.specs.Waits.{taskAt, semAt, waitsFor, heldBy, waitsOn}
-use Rattle.executive.specs.Standing.{Rank, foundAnd, ownOf, shownDeadline, bestAmong, isReady}
+use Rattle.executive.specs.Standing.{foundAnd, ownOf, shownDeadline, bestAmong, isReady}
 
 -- the goal takes a task that does this at this position
 unfoldable pub takes : Goal → Status → ℕ → Bool
@@ -101,6 +101,10 @@ winnerOf tasks sems goal n = bestAmong (λ j. foundAnd (λ _. true) (metBy tasks
 unfoldable pub bestFor : List Task → List Sem → Goal → Found → Best
 bestFor tasks sems goal Nothing = noBest
 bestFor tasks sems goal (At w) = asBest (taskAt tasks w) w (metCode (metBy tasks sems goal w))
+
+-- what the scan over the first n tasks hands back
+abbrev pub scanOf : List Task → List Sem → Goal → ℕ → Best
+scanOf tasks sems goal n = bestFor tasks sems goal (winnerOf tasks sems goal n)
 
 -- the task that is met there
 unfoldable pub metFound : Best → Found

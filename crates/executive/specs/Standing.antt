@@ -67,6 +67,7 @@ foundOr other (At i) = i
 unfoldable pub standingOf : List Task → List Sem → ℕ → Rank
 standingOf tasks sems i = ownOf tasks (foundOr i (bestAmong (reaches tasks sems i) (ownOf tasks) (length tasks)))
 
+-- 01, "Dispatch": a task is idle, ready, waiting for an event, or waiting for a semaphore
 unfoldable pub isIdle : Status → Bool
 isIdle Idle = true
 isIdle Ready = false
@@ -89,7 +90,7 @@ isEvent (Waits k) = false
 unfoldable pub readyAt : List Task → ℕ → Bool
 readyAt tasks i = isReady ((taskAt tasks i) .status)
 
--- the task at a position waits for the semaphore at the place k, and for no other before it
+-- the task at a position waits for the semaphore at the place k
 unfoldable pub waiterAt : List Task → ℕ → ℕ → Bool
 waiterAt tasks k i = foundAnd (λ at. eqb at k) (waitsFor ((taskAt tasks i) .status))
 

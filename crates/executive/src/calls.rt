@@ -1,4 +1,5 @@
-// The calls: each takes the state by value and hands back the next state beside a number. A refusal hands back the very state.
+// The calls: each takes the state by value and hands back the next state beside a number. A refusal hands back the
+// very state.
 ghost use mathlib.Core.Path.{_≡_};
 ghost use mathlib.Core.Bool.{not};
 ghost use mathlib.Core.List.{[], _∷_};
@@ -6,7 +7,7 @@ ghost use Prim.Native.Nat.{_+_, _≤_};
 ghost use Rattle.table.specs.Refusals.{firstOf};
 ghost use Rattle.table.specs.Entries.{spanOf, withStatus, withDeadline};
 ghost use Rattle.executive.specs.States.{semsOf};
-ghost use Rattle.executive.specs.Waits.{waitsFor, heldBy};
+ghost use Rattle.executive.specs.Waits.{waitsFor};
 ghost use Rattle.executive.specs.Sound.{Sized, Sound};
 ghost use Rattle.executive.specs.Standing.{isIdle, isEvent};
 ghost use Rattle.executive.specs.Calls.{
@@ -22,6 +23,7 @@ ghost use Rattle.executive.specs.Calls.{
   completeOf,
   blockOf,
 };
+use crate::lookup;
 use crate::standing;
 use crate::standing::Goal;
 use crate::state::State;
@@ -33,6 +35,7 @@ use table::Task;
 use table::limits;
 use table::numbers;
 
+// What a call hands back: the next state and a number of document 01.
 pub struct Moved {
     pub state: State,
     pub answer: u8,
@@ -301,7 +304,7 @@ impl State {
                 answer: numbers::NOBODY_RUNS,
             };
         };
-        let found = self.find_sem(number);
+        let found = lookup::sem_place(self.sems, self.m, number);
         let Found::At(k) = found else {
             return Moved {
                 state: self,
@@ -344,7 +347,7 @@ impl State {
                 answer: numbers::NOBODY_RUNS,
             };
         };
-        let found = self.find_sem(number);
+        let found = lookup::sem_place(self.sems, self.m, number);
         let Found::At(k) = found else {
             return Moved {
                 state: self,

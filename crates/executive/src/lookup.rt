@@ -3,8 +3,11 @@ ghost use mathlib.Core.Path.{_≡_};
 ghost use Rattle.table.specs.Places.{taskPlace, semPlace};
 ghost use Rattle.executive.specs.States.{tasksOf, semsOf};
 ghost use Rattle.executive.specs.Sound.{Sized};
+ghost use Prim.Native.Nat.{_≤_};
+ghost use lib.ListN.{length, take};
 use crate::state::State;
 use table::Found;
+use table::Sem;
 
 impl State {
     pub fn find_task(self, number: u16) -> Found
@@ -26,14 +29,22 @@ impl State {
         requires { ⌜ Sized self ⌝ }
         ensures { λ r. ⌜ r ≡ semPlace (semsOf self) number ⌝ }
     {
-        let m = self.m;
-        let mut k: usize = 0;
-        while k < m {
-            if self.sems[k].number == number {
-                return Found::At(k);
-            }
-            k += 1;
-        }
-        Found::Nothing
+        let sems = self.sems;
+        sem_place(sems, self.m, number)
     }
+}
+
+// The place of a semaphore's number among the first m entries. It takes the entries alone: a state costs a copy.
+pub(crate) fn sem_place(sems: [Sem; 16], m: usize, number: u16) -> Found
+    requires { ⌜ (m ≤ 16) × (m ≤ length sems) ⌝ }
+    ensures { λ r. ⌜ r ≡ semPlace (take m sems) number ⌝ }
+{
+    let mut k: usize = 0;
+    while k < m {
+        if sems[k].number == number {
+            return Found::At(k);
+        }
+        k += 1;
+    }
+    Found::Nothing
 }

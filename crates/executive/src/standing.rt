@@ -1,12 +1,14 @@
-// Standing and the running task. Nothing is kept in the state: both are worked out from who waits for what, by one scan over the tasks.
+// Standing and the running task. Nothing is kept in the state: both are worked out from who waits for what, by one
+// scan over the tasks.
 ghost use mathlib.Core.Path.{_≡_};
-ghost use Prim.Native.Nat.{_<_};
-ghost use lib.ListN.{length};
+ghost use Prim.Native.Nat.{_<_, _≤_};
+ghost use lib.Dec.{eqb};
 ghost use Rattle.executive.specs.States.{tasksOf, semsOf};
 ghost use Rattle.executive.specs.Sound.{Sound};
 ghost use Rattle.executive.specs.Waits.{waitsFor};
-ghost use Rattle.executive.specs.Standing.{runningOf, numberAt, shownDeadline};
-ghost use Rattle.executive.specs.Scan.{takes, semCode, holderLeads, Linked, walked, ledTo, folded, winnerOf, bestFor, metFound};
+ghost use Rattle.executive.specs.Standing.{foundAnd, isReady, runningOf, numberAt, shownDeadline};
+ghost use Rattle.executive.specs.Scan.{takes, semCode, holderLeads, Linked, walked, followed, ledTo};
+ghost use Rattle.executive.specs.Scan.{folded, scanOf, metFound};
 ghost use Rattle.executive.specs.Calls.{standsOf};
 use crate::state::State;
 use table::Found;
@@ -30,8 +32,8 @@ pub enum Goal {
     WaitsFor(u8),
 }
 
-// The best own standing so far among the tasks whose chain of waits meets the goal, and the task that is met there. No field is narrow, so
-// that the loop carries no gaps.
+// The best own standing so far among the tasks whose chain of waits meets the goal, and the task that is met there.
+// No field is narrow, so that the loop carries no gaps.
 pub struct Best {
     pub queue: u64,
     pub deadline: u64,
@@ -39,11 +41,11 @@ pub struct Best {
     pub met: u64,
 }
 
-// Where a chain leads, in a byte: below 16 the place of a semaphore, from 64 on the position of a task that the goal takes,
-// between them nobody.
-pub const MET: u8 = 64;
+// Where a chain leads, in a byte: below 16 the place of a semaphore, from 64 on the position of a task that the goal
+// takes, between them nobody.
+pub(crate) const MET: u8 = 64;
 
-pub const NOBODY: u8 = 32;
+const NOBODY: u8 = 32;
 
 // No queue is as large as this, so that any task is better.
 const NO_QUEUE: u64 = 256;
@@ -51,7 +53,7 @@ const NO_QUEUE: u64 = 256;
 const FP: u8 = 3;
 
 fn is_ready(status: Status) -> bool
-    ensures { λ r. ⌜ r ≡ takes Goal.Ready status 0 ⌝ }
+    ensures { λ r. ⌜ r ≡ isReady status ⌝ }
 {
     match status {
         Status::Idle => false,
@@ -62,7 +64,7 @@ fn is_ready(status: Status) -> bool
 }
 
 fn waits_for(status: Status, k: u8) -> bool
-    ensures { λ r. ⌜ r ≡ takes (Goal.WaitsFor k) status 0 ⌝ }
+    ensures { λ r. ⌜ r ≡ foundAnd (λ at. eqb at k) (waitsFor status) ⌝ }
 {
     match status {
         Status::Idle => false,
@@ -106,25 +108,21 @@ fn led_by(goal: Goal, status: Status, place: u8) -> u8
     waited(status)
 }
 
-// The table followed from a place on. A chain passes each semaphore once, so that 17 steps suffice.
-pub fn walk(link: [u8; 16], from: u8) -> u8
+// The table followed from a place on. A chain passes each semaphore once, so that it comes to an end.
+pub(crate) fn walk(link: [u8; 16], from: u8) -> u8
+    requires { ⌜ 16 ≤ walked 17 link from ⌝ }
     ensures { λ r. ⌜ r ≡ walked 17 link from ⌝ }
 {
     let mut at = from;
-    let mut hops: usize = 0;
-    while hops < 17 {
-        if at >= 16 {
-            return at;
-        }
+    while at < 16 {
         at = link[at as usize];
-        hops += 1;
     }
     at
 }
 
 // Where the chain of a task leads.
 fn led_to(link: [u8; 16], goal: Goal, status: Status, place: u8) -> u8
-    requires { ⌜ place < 64 ⌝ }
+    requires { ⌜ (place < 64) × (16 ≤ followed link (waitsFor status)) ⌝ }
     ensures { λ r. ⌜ r ≡ ledTo link goal status place ⌝ }
 {
     if taken(goal, status, place) {
@@ -147,7 +145,8 @@ fn deadline_shown(t: Task) -> u64
     t.deadline
 }
 
-// The best so far with one task more. Tasks come by rising position, so that the earlier one stays where queue and deadline are equal.
+// The best so far with one task more. Tasks come by rising position, so that the earlier one stays where queue and
+// deadline are equal.
 fn fold(best: Best, t: Task, position: u64, met: u8) -> Best
     ensures { λ r. ⌜ r ≡ folded best t position met ⌝ }
 {
@@ -178,7 +177,7 @@ fn fold(best: Best, t: Task, position: u64, met: u8) -> Best
 }
 
 // The task that is met.
-pub fn met_at(best: Best) -> Found
+pub(crate) fn met_at(best: Best) -> Found
     ensures { λ r. ⌜ r ≡ metFound best ⌝ }
 {
     if best.met < 64 {
@@ -189,7 +188,7 @@ pub fn met_at(best: Best) -> Found
 
 impl State {
     // For each semaphore, where its holder leads.
-    pub fn links(self, goal: Goal) -> [u8; 16]
+    pub(crate) fn links(self, goal: Goal) -> [u8; 16]
         requires { ⌜ Sound self ⌝ }
         ensures { λ r. ⌜ Linked (tasksOf self) (semsOf self) goal r ⌝ }
     {
@@ -216,9 +215,9 @@ impl State {
     }
 
     // The best own standing among the tasks whose chain of waits meets the goal.
-    pub fn scan(self, goal: Goal) -> Best
+    pub(crate) fn scan(self, goal: Goal) -> Best
         requires { ⌜ Sound self ⌝ }
-        ensures { λ r. ⌜ r ≡ bestFor (tasksOf self) (semsOf self) goal (winnerOf (tasksOf self) (semsOf self) goal (self .n)) ⌝ }
+        ensures { λ r. ⌜ r ≡ scanOf (tasksOf self) (semsOf self) goal (self .n) ⌝ }
     {
         let link = self.links(goal);
         let n = self.n;

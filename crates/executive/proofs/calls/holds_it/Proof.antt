@@ -1,30 +1,25 @@
+-- `calls::holds_it` meets its contract: by who holds the semaphore.
+-- Assumes nothing.
+use borrow.Author.Needs.{needs}
 use Rattle.executive.specs.Standing.{foundAnd}
 use Rattle.executive.specs.Waits.{heldBy}
 use Rattle.executive.specs.Calls.{holdsIt}
-use borrow.Author.Needs.{needs}
 use Rattle.executive.proofs.calls.holds_it.Statement.{statement}
 use Rattle.executive.proofs.calls.holds_it.Tie as tie
-use Rattle.executive.proofs.calls.holds_it.Reads as reads
-use Rattle.executive.proofs.calls.holds_it.Lts as lts
 
--- src/calls.rt:91:20
 enum-known-holder : tie.Need-enum-known-holder
 enum-known-holder c = search needs
 
--- src/calls.rt:92:9
 enum-told : tie.Need-enum-told
 enum-told c = search needs
 
--- src/calls.rt:92:9
 returns : tie.Need-returns
 unfolding holdsIt foundAnd heldBy
 returns c = rw (c .enum-told .given .1)
 
--- src/calls.rt:94:5
 cast-result : tie.Need-cast-result
 cast-result c = search needs
 
--- src/calls.rt:87:1
 returns-2 : tie.Need-returns-2
 unfolding holdsIt foundAnd heldBy
 returns-2 c = rw (c .before .holder .given .1)

@@ -1,33 +1,27 @@
-use Rattle.table.specs.Refusals.{firstOf}
-use Rattle.executive.specs.Calls.{untimely}
+-- `calls::release_refusal` meets its contract: each return goes with the tests that led there.
+-- Assumes nothing.
 use borrow.Author.Tests.{lt-ltb, le-ltb}
 use borrow.Author.Needs.{needs}
+use Rattle.table.specs.Refusals.{firstOf}
+use Rattle.executive.specs.Calls.{untimely}
 use Rattle.executive.proofs.calls.release_refusal.Statement.{statement}
 use Rattle.executive.proofs.calls.release_refusal.Tie as tie
-use Rattle.executive.proofs.calls.release_refusal.Reads as reads
-use Rattle.executive.proofs.calls.release_refusal.Lts as lts
-use Rattle.executive.proofs.calls.is_idle.Reads as is-idle-reads
 
--- src/calls.rt:79:9
 is-idle-requires : tie.Need-is-idle-requires
 is-idle-requires c κs = search needs
 
--- src/calls.rt:80:9
 returns : tie.Need-returns
 unfolding firstOf
 returns c = rw (← c .before .is-idle .ensures, c .if1 .taken)
 
--- src/calls.rt:83:9
 returns-2 : tie.Need-returns-2
 unfolding firstOf untimely
 returns-2 c = rw (← c .before .before .is-idle .ensures, c .before .if1 .left, lt-ltb _ _ (c .if2 .taken))
 
--- src/calls.rt:86:9
 returns-3 : tie.Need-returns-3
 unfolding firstOf untimely
 returns-3 c = rw (← c .before .before .before .is-idle .ensures, c .before .before .if1 .left, le-ltb _ _ (c .before .if2 .left), lt-ltb _ _ (c .if3 .taken))
 
--- src/calls.rt:76:1
 returns-4 : tie.Need-returns-4
 unfolding firstOf untimely
 returns-4 c = rw (← c .before .before .before .is-idle .ensures, c .before .before .if1 .left, le-ltb _ _ (c .before .if2 .left), le-ltb _ _ (c .if3 .left))

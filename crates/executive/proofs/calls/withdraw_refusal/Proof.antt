@@ -1,27 +1,23 @@
+-- `calls::withdraw_refusal` meets its contract: each return goes with the test that led there.
+-- Assumes nothing.
+use mathlib.Core.Path.{_≡_, sym, ap, _∙_}
+use mathlib.Core.Bool.{true, false, not, Bool·not-not}
+use borrow.Author.Needs.{needs}
 use Rattle.table.specs.Refusals.{firstOf}
 use Rattle.executive.specs.Calls.{isNone}
 use Rattle.executive.specs.Waits.{waitsFor}
-use mathlib.Core.Path.{_≡_, sym, ap, _∙_}
-use mathlib.Core.Bool.{Bool, true, false, not, Bool·not-not}
-use borrow.Author.Needs.{needs}
 use Rattle.executive.proofs.calls.withdraw_refusal.Statement.{statement}
 use Rattle.executive.proofs.calls.withdraw_refusal.Tie as tie
-use Rattle.executive.proofs.calls.withdraw_refusal.Reads as reads
-use Rattle.executive.proofs.calls.withdraw_refusal.Lts as lts
-use Rattle.executive.proofs.calls.waits.Reads as waits-reads
 
--- src/calls.rt:114:9
 waits-requires : tie.Need-waits-requires
 waits-requires c κs = search needs
 
--- src/calls.rt:115:9
 returns : tie.Need-returns
 unfolding firstOf
 returns c = let n : isNone (waitsFor (c .before .before .args .status)) ≡ true =
     sym (Bool·not-not (isNone (waitsFor (c .before .before .args .status)))) ∙ ap not (sym (c .before .waits .ensures)) ∙ c .if1 .taken in
     rw n
 
--- src/calls.rt:111:1
 returns-2 : tie.Need-returns-2
 unfolding firstOf
 returns-2 c = let n : isNone (waitsFor (c .before .before .args .status)) ≡ false =

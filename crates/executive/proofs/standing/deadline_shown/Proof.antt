@@ -1,16 +1,14 @@
-use Rattle.executive.specs.Standing.{shownDeadline}
+-- `standing::deadline_shown` meets its contract: by the queue.
+-- Assumes nothing.
 use borrow.Author.Tests.{eq-eqb, ne-eqb}
+use Rattle.executive.specs.Standing.{shownDeadline}
 use Rattle.executive.proofs.standing.deadline_shown.Statement.{statement}
 use Rattle.executive.proofs.standing.deadline_shown.Tie as tie
-use Rattle.executive.proofs.standing.deadline_shown.Reads as reads
-use Rattle.executive.proofs.standing.deadline_shown.Lts as lts
 
--- src/standing.rt:145:9
 returns : tie.Need-returns
 unfolding shownDeadline
 returns c = rw (eq-eqb _ _ (c .if1 .taken))
 
--- src/standing.rt:141:1
 returns-2 : tie.Need-returns-2
 unfolding shownDeadline
 returns-2 c = rw (ne-eqb _ _ (c .if1 .left))

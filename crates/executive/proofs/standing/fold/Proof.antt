@@ -1,35 +1,29 @@
+-- `standing::fold` meets its contract: each return goes with the tests that led there.
+-- Assumes nothing.
 use Prim.Native.Nat.{_≤_, _<_}
-use Rattle.executive.specs.Standing.{shownDeadline}
-use Rattle.executive.specs.Scan.{folded, asBest}
 use borrow.Author.Tests.{lt-ltb, le-ltb, eq-eqb, ne-eqb}
 use borrow.Author.Needs.{needs}
+use Rattle.executive.specs.Standing.{shownDeadline}
+use Rattle.executive.specs.Scan.{folded, asBest}
 use Rattle.executive.proofs.standing.fold.Statement.{statement}
 use Rattle.executive.proofs.standing.fold.Tie as tie
-use Rattle.executive.proofs.standing.fold.Reads as reads
-use Rattle.executive.proofs.standing.fold.Lts as lts
-use Rattle.executive.proofs.standing.deadline_shown.Reads as deadline-shown-reads
 
--- src/standing.rt:155:9
 returns : tie.Need-returns
 unfolding folded
 returns c = rw (lt-ltb _ _ (c .if1 .taken))
 
--- src/standing.rt:157:17
 cast-queue : tie.Need-cast-queue
 cast-queue c = search needs
 
--- src/standing.rt:158:9
 deadline-shown-requires : tie.Need-deadline-shown-requires
 deadline-shown-requires c κs = search needs
 
--- src/standing.rt:160:9
 returns-2 : tie.Need-returns-2
 unfolding folded asBest
 returns-2 c = let a = c .before .before .before .before .before .args in
     rw (le-ltb _ _ (c .before .before .before .before .if1 .left), lt-ltb _ _ (c .if2 .taken))
     (λ i. record { queue = a .t .queue; deadline = c .before .before .deadline-shown .ensures i; position = a .position; met = a .met })
 
--- src/standing.rt:169:13
 returns-3 : tie.Need-returns-3
 unfolding folded asBest
 returns-3 c = let d = c .before .before .before .before .before .before in
@@ -43,7 +37,6 @@ returns-3 c = let d = c .before .before .before .before .before .before in
     )
     (λ i. record { queue = a .t .queue; deadline = d .deadline-shown .ensures i; position = a .position; met = a .met })
 
--- src/standing.rt:151:1
 returns-4 : tie.Need-returns-4
 unfolding folded
 returns-4 c = let d = c .before .before .before .before .before .before in
@@ -56,7 +49,6 @@ returns-4 c = let d = c .before .before .before .before .before .before in
       le-ltb _ _ late,
     )
 
--- src/standing.rt:151:1
 returns-5 : tie.Need-returns-5
 unfolding folded
 returns-5 c = rw (le-ltb _ _ (c .before .before .before .before .before .before .if1 .left), le-ltb _ _ (c .before .before .if2 .left), ne-eqb _ _ (c .if3 .left))

@@ -1,45 +1,36 @@
-use Rattle.executive.specs.Scan.{takes}
-use Rattle.executive.specs.Standing.{isReady}
+-- `standing::is_ready` meets its contract: by what the task does.
+-- Assumes nothing.
 use borrow.Author.Needs.{needs}
+use Rattle.executive.specs.Standing.{isReady}
 use Rattle.executive.proofs.standing.is_ready.Statement.{statement}
 use Rattle.executive.proofs.standing.is_ready.Tie as tie
-use Rattle.executive.proofs.standing.is_ready.Reads as reads
-use Rattle.executive.proofs.standing.is_ready.Lts as lts
 
--- src/standing.rt:57:25
 enum-told : tie.Need-enum-told
 enum-told c = search needs
 
--- src/standing.rt:58:26
 enum-told-2 : tie.Need-enum-told-2
 enum-told-2 c = search needs
 
--- src/standing.rt:59:26
 enum-told-3 : tie.Need-enum-told-3
 enum-told-3 c = search needs
 
--- src/standing.rt:60:29
 enum-told-4 : tie.Need-enum-told-4
 enum-told-4 c = search needs
 
--- src/standing.rt:53:1
 returns : tie.Need-returns
-unfolding takes isReady
+unfolding isReady
 returns c = rw (c .enum-told .given .1)
 
--- src/standing.rt:53:1
 returns-2 : tie.Need-returns-2
-unfolding takes isReady
+unfolding isReady
 returns-2 c = rw (c .enum-told2 .given .1)
 
--- src/standing.rt:53:1
 returns-3 : tie.Need-returns-3
-unfolding takes isReady
+unfolding isReady
 returns-3 c = rw (c .enum-told3 .given .1)
 
--- src/standing.rt:53:1
 returns-4 : tie.Need-returns-4
-unfolding takes isReady
+unfolding isReady
 returns-4 c = rw (c .enum-told4 .given .1)
 
 pub is-ready-spec : {M : Type 1} → statement M

@@ -1,63 +1,52 @@
+-- `standing::led_to` meets its contract: by whether the goal takes the task, and then by what it does.
+-- Assumes nothing.
+use mathlib.Core.Path.{sym, _∙_}
+use borrow.Author.Needs.{needs}
 use Rattle.executive.specs.Scan.{ledTo, followed}
 use Rattle.executive.specs.Waits.{waitsFor}
-use mathlib.Core.Path.{_≡_, sym, _∙_}
-use borrow.Author.Needs.{needs}
 use Rattle.executive.proofs.standing.led_to.Statement.{statement}
 use Rattle.executive.proofs.standing.led_to.Tie as tie
-use Rattle.executive.proofs.standing.led_to.Reads as reads
-use Rattle.executive.proofs.standing.led_to.Lts as lts
-use Rattle.executive.proofs.standing.taken.Reads as taken-reads
-use Rattle.executive.proofs.standing.walk.Reads as walk-reads
 
--- src/standing.rt:130:8
 taken-requires : tie.Need-taken-requires
 taken-requires c κs = search needs
 
--- src/standing.rt:131:16
 add-result : tie.Need-add-result
 add-result c = search needs
 
--- src/standing.rt:131:9
 returns : tie.Need-returns
 unfolding ledTo
 returns c = rw (sym (c .before .taken .ensures) ∙ c .if1 .taken)
 
--- src/standing.rt:134:25
 enum-told : tie.Need-enum-told
 enum-told c = search needs
 
--- src/standing.rt:135:26
 enum-told-2 : tie.Need-enum-told-2
 enum-told-2 c = search needs
 
--- src/standing.rt:136:26
 enum-told-3 : tie.Need-enum-told-3
 enum-told-3 c = search needs
 
--- src/standing.rt:137:23
 enum-known-status : tie.Need-enum-known-status
 enum-known-status c = search needs
 
--- src/standing.rt:137:29
 walk-requires : tie.Need-walk-requires
-walk-requires c κs = search needs
+unfolding followed waitsFor
+walk-requires c κs =
+    let q = c .before .status .given .1 in
+    rw q at (c .before .before .before .before .before .pre .1)
 
--- src/standing.rt:126:1
 returns-2 : tie.Need-returns-2
 unfolding ledTo followed waitsFor
 returns-2 c = rw (sym (c .before .before .before .taken .ensures) ∙ c .before .before .if1 .left, c .enum-told .given .1)
 
--- src/standing.rt:126:1
 returns-3 : tie.Need-returns-3
 unfolding ledTo followed waitsFor
 returns-3 c = rw (sym (c .before .before .before .taken .ensures) ∙ c .before .before .if1 .left, c .enum-told2 .given .1)
 
--- src/standing.rt:126:1
 returns-4 : tie.Need-returns-4
 unfolding ledTo followed waitsFor
 returns-4 c = rw (sym (c .before .before .before .taken .ensures) ∙ c .before .before .if1 .left, c .enum-told3 .given .1)
 
--- src/standing.rt:126:1
 returns-5 : tie.Need-returns-5
 unfolding ledTo followed waitsFor
 returns-5 c = rw

@@ -1,16 +1,14 @@
-use Rattle.executive.specs.Scan.{metFound}
+-- `standing::met_at` meets its contract: by the code of what is met.
+-- Assumes nothing.
 use borrow.Author.Tests.{lt-ltb, le-ltb}
+use Rattle.executive.specs.Scan.{metFound}
 use Rattle.executive.proofs.standing.met_at.Statement.{statement}
 use Rattle.executive.proofs.standing.met_at.Tie as tie
-use Rattle.executive.proofs.standing.met_at.Reads as reads
-use Rattle.executive.proofs.standing.met_at.Lts as lts
 
--- src/standing.rt:185:9
 returns : tie.Need-returns
 unfolding metFound
 returns c = rw (lt-ltb _ _ (c .if1 .taken))
 
--- src/standing.rt:181:1
 returns-2 : tie.Need-returns-2
 unfolding metFound
 returns-2 c = rw (le-ltb _ _ (c .before .if1 .left))

@@ -1,43 +1,35 @@
+-- `standing::waited` meets its contract: by what the task does.
+-- Assumes nothing.
+use borrow.Author.Needs.{needs}
 use Rattle.executive.specs.Scan.{semCode}
 use Rattle.executive.specs.Waits.{waitsFor}
-use borrow.Author.Needs.{needs}
 use Rattle.executive.proofs.standing.waited.Statement.{statement}
 use Rattle.executive.proofs.standing.waited.Tie as tie
-use Rattle.executive.proofs.standing.waited.Reads as reads
-use Rattle.executive.proofs.standing.waited.Lts as lts
 
--- src/standing.rt:91:25
 enum-told : tie.Need-enum-told
 enum-told c = search needs
 
--- src/standing.rt:92:26
 enum-told-2 : tie.Need-enum-told-2
 enum-told-2 c = search needs
 
--- src/standing.rt:93:26
 enum-told-3 : tie.Need-enum-told-3
 enum-told-3 c = search needs
 
--- src/standing.rt:94:23
 enum-known-status : tie.Need-enum-known-status
 enum-known-status c = search needs
 
--- src/standing.rt:87:1
 returns : tie.Need-returns
 unfolding semCode waitsFor
 returns c = rw (c .enum-told .given .1)
 
--- src/standing.rt:87:1
 returns-2 : tie.Need-returns-2
 unfolding semCode waitsFor
 returns-2 c = rw (c .enum-told2 .given .1)
 
--- src/standing.rt:87:1
 returns-3 : tie.Need-returns-3
 unfolding semCode waitsFor
 returns-3 c = rw (c .enum-told3 .given .1)
 
--- src/standing.rt:87:1
 returns-4 : tie.Need-returns-4
 unfolding semCode waitsFor
 returns-4 c = rw (c .before .status .given .1)

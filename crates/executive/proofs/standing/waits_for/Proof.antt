@@ -1,46 +1,37 @@
-use Rattle.executive.specs.Scan.{takes}
+-- `standing::waits_for` meets its contract: by what the task does.
+-- Assumes nothing.
+use borrow.Author.Needs.{needs}
 use Rattle.executive.specs.Standing.{foundAnd}
 use Rattle.executive.specs.Waits.{waitsFor}
-use borrow.Author.Needs.{needs}
 use Rattle.executive.proofs.standing.waits_for.Statement.{statement}
 use Rattle.executive.proofs.standing.waits_for.Tie as tie
-use Rattle.executive.proofs.standing.waits_for.Reads as reads
-use Rattle.executive.proofs.standing.waits_for.Lts as lts
 
--- src/standing.rt:68:25
 enum-told : tie.Need-enum-told
 enum-told c = search needs
 
--- src/standing.rt:69:26
 enum-told-2 : tie.Need-enum-told-2
 enum-told-2 c = search needs
 
--- src/standing.rt:70:26
 enum-told-3 : tie.Need-enum-told-3
 enum-told-3 c = search needs
 
--- src/standing.rt:71:23
 enum-known-status : tie.Need-enum-known-status
 enum-known-status c = search needs
 
--- src/standing.rt:64:1
 returns : tie.Need-returns
-unfolding takes foundAnd waitsFor
+unfolding foundAnd waitsFor
 returns c = rw (c .enum-told .given .1)
 
--- src/standing.rt:64:1
 returns-2 : tie.Need-returns-2
-unfolding takes foundAnd waitsFor
+unfolding foundAnd waitsFor
 returns-2 c = rw (c .enum-told2 .given .1)
 
--- src/standing.rt:64:1
 returns-3 : tie.Need-returns-3
-unfolding takes foundAnd waitsFor
+unfolding foundAnd waitsFor
 returns-3 c = rw (c .enum-told3 .given .1)
 
--- src/standing.rt:64:1
 returns-4 : tie.Need-returns-4
-unfolding takes foundAnd waitsFor
+unfolding foundAnd waitsFor
 returns-4 c = rw (c .before .status .given .1)
 
 pub waits-for-spec : {M : Type 1} → statement M

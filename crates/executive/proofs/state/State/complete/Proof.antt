@@ -1,44 +1,32 @@
-use Prim.Native.Nat.{ℕ, _+_, _<_, _≤_}
+-- `State::complete` meets its contract: the running task by the scan, then the refusal, then the entry anew.
+-- Assumes nothing.
+use Prim.Native.Nat.{_<_}
 use mathlib.Core.Path.{_≡_, refl, sym, ap, _∙_}
 use mathlib.Core.List.{[], _∷_}
 use native.Mathlib.Omega.{arith}
-use lib.ListN.{getD}
 use borrow.Author.Tests.{eqb-false}
-use Rattle.table.specs.declared.Task.{Task}
-use Rattle.table.specs.declared.Found.the-variants.{At, Nothing}
-use Rattle.table.specs.Entries.{blankTask, blankSem, withStatus, withHolder}
-use Rattle.table.proofs.RefusalLaws.{firstOf-none, firstOf-here, firstOf-past}
-use Rattle.executive.specs.States.{tasksOf, semsOf}
-use Rattle.executive.specs.Waits.{taskAt}
-use Rattle.executive.proofs.CallLaws.{Call, call-none, call-refused, call-done, task-at, sem-at}
-use Rattle.executive.specs.Standing.{runningOf}
-use Rattle.executive.proofs.RunLaws.{scanned-runs, runs-below}
-use mathlib.Core.Bool.{Bool, true, false}
-use Rattle.table.specs.declared.Status.the-variants.{Idle}
-use Rattle.executive.specs.Calls.{completeOf, completeAt, stillHolds, nowDoes, moved, withTask}
 use borrow.Author.Needs.{needs}
+use Rattle.table.specs.declared.Task.{Task}
+use Rattle.table.specs.Entries.{withStatus}
+use Rattle.table.proofs.RefusalLaws.{firstOf-none, firstOf-here, firstOf-past}
+use Rattle.table.specs.declared.Status.the-variants.{Idle}
+use Rattle.executive.specs.States.{tasksOf, semsOf}
+use Rattle.executive.specs.Standing.{runningOf}
+use Rattle.executive.specs.Calls.{completeOf, completeAt, stillHolds, nowDoes, moved, withTask}
+use Rattle.executive.proofs.CallLaws.{call-none, call-refused, call-done, task-at}
+use Rattle.executive.proofs.RunLaws.{scanned-runs, runs-below}
 use Rattle.executive.proofs.state.State.complete.Statement.{statement}
 use Rattle.executive.proofs.state.State.complete.Tie as tie
-use Rattle.executive.proofs.state.State.complete.Reads as reads
-use Rattle.executive.proofs.state.State.complete.Lts as lts
-use Rattle.executive.proofs.standing.met_at.Reads as met-at-reads
-use Rattle.executive.proofs.state.State.holds.Reads as holds-reads
-use Rattle.executive.proofs.state.State.scan.Reads as scan-reads
-use Rattle.table.proofs.Task.with_status.Reads as with-status-reads
 
--- src/calls.rt:251:37
 scan-requires : tie.Need-scan-requires
 scan-requires c κs = search needs
 
--- src/calls.rt:251:13
 met-at-requires : tie.Need-met-at-requires
 met-at-requires c κs = search needs
 
--- src/calls.rt:252:23
 enum-known-runs : tie.Need-enum-known-runs
 enum-known-runs c = search needs
 
--- src/calls.rt:254:24
 enum-told : tie.Need-enum-told
 enum-told c = search needs
 
@@ -56,7 +44,6 @@ below c =
 fits : (c : tie.After-known-told) → c .before .runs .given .0 .0 < 64
 fits c = let h = below c in let z = c .before .before .before .before .before .pre .sized in omega arith
 
--- src/calls.rt:253:13
 returns : tie.Need-returns
 unfolding completeOf moved
 returns c = let s = c .before .before .before .before .args .t1 in
@@ -64,11 +51,9 @@ returns c = let s = c .before .before .before .before .args .t1 in
     (call-none 26 (λ i. (27, stillHolds (semsOf s) i) ∷ []) (moved s) (λ i. moved (completeAt s i) 0) (runningOf (tasksOf s) (semsOf s))
     (sym (run (c .before .before)) ∙ c .enum-told .given .1) (eqb-false 26 0 refl))
 
--- src/calls.rt:258:12
 holds-requires : tie.Need-holds-requires
 holds-requires c κs = search needs
 
--- src/calls.rt:259:13
 returns-2 : tie.Need-returns-2
 unfolding completeOf moved
 returns-2 c = let s = c .before .before .before .before .before .before .before .args .t1 in
@@ -78,27 +63,21 @@ returns-2 c = let s = c .before .before .before .before .before .before .before 
     (sym (run (c .before .before .before .before .before)) ∙ c .before .before .before .runs .given .1)
     (firstOf-here 27 (stillHolds (semsOf s) i) [] (sym (c .before .holds .ensures) ∙ c .if1 .taken)) (eqb-false 27 0 refl))
 
--- src/calls.rt:264:17
 mul-t : tie.Need-mul-t
 mul-t c = omega (arith, fits (c .before .before))
 
--- src/calls.rt:264:17
 element-copy-out-t : tie.Need-element-copy-out-t
 element-copy-out-t c = fits (c .before .before)
 
--- src/calls.rt:265:25
 with-status-requires : tie.Need-with-status-requires
 with-status-requires c κs = search needs
 
--- src/calls.rt:265:9
 mul-t12 : tie.Need-mul-t12
 mul-t12 c = omega (arith, fits (c .before .before .before .before))
 
--- src/calls.rt:265:9
 element-set-from-self : tie.Need-element-set-from-self
 element-set-from-self c = fits (c .before .before .before .before)
 
--- src/calls.rt:247:5
 returns-3 : tie.Need-returns-3
 unfolding completeOf moved completeAt nowDoes withTask
 returns-3 c = let s = c .before .before .before .before .before .before .before .before .before .args .t1 in

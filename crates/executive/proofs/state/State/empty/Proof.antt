@@ -1,9 +1,9 @@
--- `executive::State::empty` meets its contract: the three parts are blank, blank and without figures.
+-- `State::empty` meets its contract: field by field.
 -- Assumes nothing.
-use Rattle.executive.specs.States.{emptyState}
 use mathlib.Core.Bool.{false}
 use lib.ListN.{replicate}
 use borrow.Author.Needs.{needs}
+use Rattle.executive.specs.States.{emptyState}
 use Rattle.executive.proofs.state.State.empty.Statement.{statement}
 use Rattle.executive.proofs.state.State.empty.Tie as tie
 

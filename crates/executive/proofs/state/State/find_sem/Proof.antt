@@ -1,73 +1,16 @@
--- `executive::State::find_sem` meets its contract: the search law of the table, at the first m semaphores.
+-- `State::find_sem` meets its contract: it asks `sem_place`.
 -- Assumes nothing.
-use Prim.Native.Nat.{_≤_, _-_}
-use mathlib.Core.Path.{_≡_, refl}
-use lib.Dec.{eqb}
-use lib.ListN.{take, drop}
-use borrow.Author.Tests.{eq-eqb, ne-eqb}
 use borrow.Author.Needs.{needs}
-use native.Mathlib.Omega.{arith}
-use Rattle.table.specs.Places.{firstPlace, semPlace}
-use Rattle.table.proofs.PlaceLaws.{Come, come-start, come-hit, come-miss, come-end}
 use Rattle.executive.specs.States.{semsOf}
 use Rattle.executive.proofs.state.State.find_sem.Statement.{statement}
 use Rattle.executive.proofs.state.State.find_sem.Tie as tie
 
-abbrev Inv-loop : tie.InvT-loop
-Inv-loop number self m k₀ k = (k ≤ m) × Come (λ t. eqb (t .number) number) (self .sems) m k
+sem-place-requires : tie.Need-sem-place-requires
+sem-place-requires c κs = search needs
 
-abbrev μ-loop : tie.MeasureT-loop
-μ-loop number self m k₀ k = m - k
-
-loop-holds : tie.Need-loop-holds Inv-loop μ-loop
-loop-holds c = (search needs, refl)
-
-mul-if1 : tie.Need-mul-if1 Inv-loop μ-loop
-mul-if1 c = search needs
-
-element-copy-out-if1 : tie.Need-element-copy-out-if1 Inv-loop μ-loop
-element-copy-out-if1 c = search needs
-
-returns : tie.Need-returns Inv-loop μ-loop
-unfolding semPlace semsOf
-returns c =
-    let a = c .before .before .before .args in
-    come-hit (λ t. eqb (t .number) (a .number)) (a .t1 .sems) (a .t1 .m) (c .before .before .loop .k) _ (c .before .loop-test .taken)
-    (omega arith)
-    (eq-eqb _ _ (c .if1 .taken)) (c .before .before .loop .inv .1)
-
-add-k : tie.Need-add-k Inv-loop μ-loop
-add-k c = search needs
-
-loop-less : tie.Need-loop-less Inv-loop μ-loop
-loop-less c = search needs
-
-loop-again : tie.Need-loop-again Inv-loop μ-loop
-loop-again c =
-    let a = c .before .before .before .args in (
-      search needs,
-      come-miss (λ t. eqb (t .number) (a .number)) (a .t1 .sems) (a .t1 .m) (c .before .before .loop .k) _ (c .before .loop-test .taken)
-          (omega arith)
-          (ne-eqb _ _ (c .if1 .left)) (c .before .before .loop .inv .1),
-    )
-
-returns-2 : tie.Need-returns-2 Inv-loop μ-loop
-unfolding semPlace semsOf
-returns-2 c =
-    let a = c .before .before .args in
-    come-end (λ t. eqb (t .number) (a .number)) (a .t1 .sems) (a .t1 .m) (c .before .loop .k) (c .loop-test .left) (c .before .loop .inv .1)
+returns : tie.Need-returns
+unfolding semsOf
+returns c = c .sem-place .ensures
 
 pub find-sem-spec : {M : Type 1} → statement M
-find-sem-spec =
-    tie.close
-    (tie.spec
-    Inv-loop
-    μ-loop
-    loop-holds
-    mul-if1
-    element-copy-out-if1
-    returns
-    add-k
-    loop-less
-    loop-again
-    returns-2)
+find-sem-spec = tie.close (tie.spec sem-place-requires returns)

@@ -1,14 +1,13 @@
--- `executive::State::find_task` meets its contract: the search law of the table, at the first n tasks.
+-- `State::find_task` meets its contract: what is left from i on decides.
 -- Assumes nothing.
 use Prim.Native.Nat.{_≤_, _-_}
-use mathlib.Core.Path.{_≡_, refl}
+use mathlib.Core.Path.{refl}
+use native.Mathlib.Omega.{arith}
 use lib.Dec.{eqb}
-use lib.ListN.{take, drop}
 use borrow.Author.Tests.{eq-eqb, ne-eqb}
 use borrow.Author.Needs.{needs}
-use native.Mathlib.Omega.{arith}
-use Rattle.table.specs.Places.{firstPlace, taskPlace}
-use Rattle.table.proofs.PlaceLaws.{Come, come-start, come-hit, come-miss, come-end}
+use Rattle.table.specs.Places.{taskPlace}
+use Rattle.table.proofs.PlaceLaws.{Come, come-hit, come-miss, come-end}
 use Rattle.executive.specs.States.{tasksOf}
 use Rattle.executive.proofs.state.State.find_task.Statement.{statement}
 use Rattle.executive.proofs.state.State.find_task.Tie as tie

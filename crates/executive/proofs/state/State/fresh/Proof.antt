@@ -1,9 +1,9 @@
--- `executive::State::fresh` meets its contract: as the empty state, with the built-in figures.
+-- `State::fresh` meets its contract: field by field.
 -- Assumes nothing.
-use Rattle.executive.specs.States.{freshState}
 use mathlib.Core.Bool.{false}
 use lib.ListN.{replicate}
 use borrow.Author.Needs.{needs}
+use Rattle.executive.specs.States.{freshState}
 use Rattle.executive.proofs.state.State.fresh.Statement.{statement}
 use Rattle.executive.proofs.state.State.fresh.Tie as tie
 

@@ -1,21 +1,19 @@
-use Prim.Native.Nat.{ℕ, _-_, _≤_, _<_, _+_}
-use mathlib.Core.Path.{_≡_, refl, sym, ap, _∙_}
-use mathlib.Core.Bool.{false, true}
+-- `State::holds` meets its contract: none of the semaphores before k is held by the task.
+-- Assumes nothing.
+use Prim.Native.Nat.{ℕ, _-_, _≤_, _<_}
+use mathlib.Core.Path.{_≡_, sym, ap, _∙_}
+use mathlib.Core.Bool.{false}
 use native.Mathlib.Omega.{arith}
-use borrow.Author.Needs.{needs}
-use borrow.Author.Count.{below-more}
 use lib.ListN.{length, getD}
 use lib.Seq.{length-take-le, getD-take}
-use Rattle.table.specs.declared.Sem.{Sem}
+use borrow.Author.Needs.{needs}
+use borrow.Author.Count.{below-more}
 use Rattle.table.specs.Entries.{blankSem}
 use Rattle.table.proofs.SumLaws.{any-some, none-any}
 use Rattle.executive.specs.States.{semsOf}
 use Rattle.executive.specs.Calls.{stillHolds, holdsIt}
 use Rattle.executive.proofs.state.State.holds.Statement.{statement}
 use Rattle.executive.proofs.state.State.holds.Tie as tie
-use Rattle.executive.proofs.state.State.holds.Reads as reads
-use Rattle.executive.proofs.state.State.holds.Lts as lts
-use Rattle.executive.proofs.calls.holds_it.Reads as holds-it-reads
 
 abbrev Inv-loop : tie.InvT-loop
 Inv-loop i self m k₀ k = (k ≤ m) × ((j : ℕ) → j < k → holdsIt i (getD (self .sems) j blankSem) ≡ false)
@@ -23,23 +21,18 @@ Inv-loop i self m k₀ k = (k ≤ m) × ((j : ℕ) → j < k → holdsIt i (getD
 abbrev μ-loop : tie.MeasureT-loop
 μ-loop i self m k₀ k = m - k
 
--- src/calls.rt:203:9
 loop-holds : tie.Need-loop-holds Inv-loop μ-loop
 loop-holds c = (omega arith, λ j h. absurd (omega arith))
 
--- src/calls.rt:204:28
 mul-holds-it : tie.Need-mul-holds-it Inv-loop μ-loop
 mul-holds-it c = search needs
 
--- src/calls.rt:204:28
 element-copy-out-holds-it : tie.Need-element-copy-out-holds-it Inv-loop μ-loop
 element-copy-out-holds-it c = search needs
 
--- src/calls.rt:204:16
 holds-it-requires : tie.Need-holds-it-requires Inv-loop μ-loop
 holds-it-requires c κs = tt
 
--- src/calls.rt:205:17
 returns : tie.Need-returns Inv-loop μ-loop
 unfolding stillHolds semsOf
 returns c = let b = c .before .before .before .before .before in
@@ -49,19 +42,15 @@ returns c = let b = c .before .before .before .before .before in
     (any-some (holdsIt (b .args .i)) (semsOf s) (l .k) blankSem (rw (length-take-le (s .m) (s .sems) (omega arith)) (omega arith))
     (ap (holdsIt (b .args .i)) (getD-take (s .m) (s .sems) (l .k) blankSem (omega arith)) ∙ sym (c .before .holds-it .ensures) ∙ c .if1 .taken))
 
--- src/calls.rt:207:13
 add-k : tie.Need-add-k Inv-loop μ-loop
 add-k c = search needs
 
--- src/calls.rt:203:9
 loop-less : tie.Need-loop-less Inv-loop μ-loop
 loop-less c = search needs
 
--- src/calls.rt:203:9
 loop-again : tie.Need-loop-again Inv-loop μ-loop
 loop-again c = (omega arith, below-more _ _ (c .before .before .before .before .loop .inv .1) (sym (c .before .holds-it .ensures) ∙ c .if1 .left))
 
--- src/calls.rt:197:5
 returns-2 : tie.Need-returns-2 Inv-loop μ-loop
 unfolding stillHolds semsOf
 returns-2 c = let b = c .before .before in

@@ -1,19 +1,18 @@
+-- `State::links` meets its contract: the entries before k say where their semaphores lead.
+-- Assumes nothing.
+use Prim.Native.Nat.{ℕ, _-_, _≤_, _<_}
 use mathlib.Core.Logic.{⊎-elim}
-use lib.Seq.{length-take-le}
-use Rattle.executive.proofs.ScanLaws.{table-more, holder-below, led-held, led-free}
-use Prim.Native.Nat.{ℕ, _-_, _≤_, _<_, _+_}
-use mathlib.Core.Path.{_≡_, refl, sym, ap, _∙_}
+use mathlib.Core.Path.{_≡_, refl, _∙_}
 use native.Mathlib.Omega.{arith}
-use borrow.Author.Needs.{needs}
+use lib.Seq.{length-take-le}
 use lib.ListN.{length, getD}
+use borrow.Author.Needs.{needs}
 use Rattle.executive.specs.States.{tasksOf, semsOf}
 use Rattle.executive.specs.Waits.{semAt, heldBy}
-use Rattle.executive.specs.Scan.{Linked, ledBy}
+use Rattle.executive.specs.Scan.{ledBy}
+use Rattle.executive.proofs.ScanLaws.{table-more, holder-below, led-held, led-free}
 use Rattle.executive.proofs.state.State.links.Statement.{statement}
 use Rattle.executive.proofs.state.State.links.Tie as tie
-use Rattle.executive.proofs.state.State.links.Reads as reads
-use Rattle.executive.proofs.state.State.links.Lts as lts
-use Rattle.executive.proofs.standing.led_by.Reads as led-by-reads
 
 abbrev Inv-loop : tie.InvT-loop
 Inv-loop goal self m link₀ k₀ link k = (k ≤ m) × (length link ≡ 16) × ((j : ℕ) → j < k → getD link j 0 ≡ ledBy (tasksOf self) goal (heldBy ((semAt (semsOf self) j) .holder)))
@@ -21,27 +20,21 @@ Inv-loop goal self m link₀ k₀ link k = (k ≤ m) × (length link ≡ 16) × 
 abbrev μ-loop : tie.MeasureT-loop
 μ-loop goal self m link₀ k₀ link k = m - k
 
--- src/standing.rt:199:9
 loop-holds : tie.Need-loop-holds Inv-loop μ-loop
 loop-holds c = (omega arith, refl, λ j h. absurd (omega arith))
 
--- src/standing.rt:200:25
 mul-entry : tie.Need-mul-entry Inv-loop μ-loop
 mul-entry c = search needs
 
--- src/standing.rt:200:25
 element-copy-out-entry : tie.Need-element-copy-out-entry Inv-loop μ-loop
 element-copy-out-entry c = search needs
 
--- src/standing.rt:204:21
 enum-told : tie.Need-enum-told Inv-loop μ-loop
 enum-told c = search needs
 
--- src/standing.rt:204:21
 array-write-link : tie.Need-array-write-link Inv-loop μ-loop
 array-write-link c = search needs
 
--- src/standing.rt:206:28
 enum-known-holder : tie.Need-enum-known-holder Inv-loop μ-loop
 enum-known-holder c = search needs
 
@@ -55,31 +48,24 @@ below c =
 cast-at : tie.Need-cast-at Inv-loop μ-loop
 cast-at c = omega (arith, below c)
 
--- src/standing.rt:208:29
 mul-t : tie.Need-mul-t Inv-loop μ-loop
 mul-t c = omega (arith, below c)
 
--- src/standing.rt:208:29
 element-copy-out-t : tie.Need-element-copy-out-t Inv-loop μ-loop
 element-copy-out-t c = omega (arith, below c)
 
--- src/standing.rt:210:31
 led-by-requires : tie.Need-led-by-requires Inv-loop μ-loop
 led-by-requires c κs = omega (arith, below (c .before))
 
--- src/standing.rt:210:21
 array-write-link-2 : tie.Need-array-write-link-2 Inv-loop μ-loop
 array-write-link-2 c = search needs
 
--- src/standing.rt:213:13
 add-k : tie.Need-add-k Inv-loop μ-loop
 add-k c = search needs
 
--- src/standing.rt:199:9
 loop-less : tie.Need-loop-less Inv-loop μ-loop
 loop-less c = search needs
 
--- src/standing.rt:199:9
 loop-again : tie.Need-loop-again Inv-loop μ-loop
 loop-again c = let b = c .before .before .before .before in
     let s = b .args .t1 in
@@ -97,7 +83,6 @@ loop-again c = let b = c .before .before .before .before in
     (omega arith, r .0, r .1))
     (c .match .came)
 
--- src/standing.rt:192:5
 returns : tie.Need-returns Inv-loop μ-loop
 unfolding semsOf
 returns c = let s = c .before .before .args .t1 in

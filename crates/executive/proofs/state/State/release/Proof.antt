@@ -1,5 +1,12 @@
+-- `State::release` meets its contract: the search by number, then the refusals, then the entry anew.
+-- Assumes nothing.
+use Prim.Native.Nat.{ℕ, _-_, _+_}
 use mathlib.Core.Bool.{Bool, not}
 use mathlib.Core.List.{List, [], _∷_}
+use mathlib.Core.Path.{refl, sym, ap, _∙_}
+use native.Mathlib.Omega.{arith}
+use lib.ListN.{getD}
+use borrow.Author.Needs.{needs}
 use Rattle.table.specs.declared.Task.{Task}
 use Rattle.table.specs.declared.Status.{Status}
 use Rattle.table.specs.declared.Status.the-variants.{Ready}
@@ -8,20 +15,9 @@ use Rattle.table.specs.Refusals.{firstOf}
 use Rattle.executive.specs.declared.state.State.{State}
 use Rattle.executive.specs.Standing.{isIdle}
 use Rattle.executive.specs.Calls.{releaseOf, releaseAt, busy, untimely, moved, withTask, withLast}
-use Prim.Native.Nat.{ℕ, _-_, _≤_, _<_, _+_}
-use mathlib.Core.Path.{_≡_, refl, sym, ap, _∙_}
-use native.Mathlib.Omega.{arith}
-use borrow.Author.Needs.{needs}
-use lib.Dec.{eqb}
-use borrow.Author.Tests.{eq-eqb, ne-eqb}
-use lib.ListN.{length, getD}
 use Rattle.executive.proofs.CallLaws.{task-call-none, task-call-refused, task-call-done, release-timely, Seeks, seeks-n, seeks-more, seeks-hit, seeks-end}
 use Rattle.executive.proofs.state.State.release.Statement.{statement}
 use Rattle.executive.proofs.state.State.release.Tie as tie
-use Rattle.executive.proofs.state.State.release.Reads as reads
-use Rattle.executive.proofs.state.State.release.Lts as lts
-use Rattle.executive.proofs.calls.release_refusal.Reads as release-refusal-reads
-use Rattle.executive.proofs.calls.released.Reads as released-reads
 
 abbrev tests : State → ℕ → Status → List (ℕ × Bool)
 tests s time now = (23, not (isIdle now)) ∷ (22, untimely (s .last) time) ∷ []
@@ -35,23 +31,18 @@ Inv-loop number time self₀ n last i₀ self i = Seeks number self₀ self i
 abbrev μ-loop : tie.MeasureT-loop
 μ-loop number time self₀ n last i₀ self i = n - i
 
--- src/calls.rt:106:9
 loop-holds : tie.Need-loop-holds Inv-loop μ-loop
 loop-holds c = record { same = refl; within = omega arith; come = refl }
 
--- src/calls.rt:107:21
 mul-t : tie.Need-mul-t Inv-loop μ-loop
 mul-t c = search needs
 
--- src/calls.rt:107:21
 element-copy-out-t : tie.Need-element-copy-out-t Inv-loop μ-loop
 element-copy-out-t c = search needs
 
--- src/calls.rt:110:21
 release-refusal-requires : tie.Need-release-refusal-requires Inv-loop μ-loop
 release-refusal-requires c κs = tt
 
--- src/calls.rt:112:21
 returns : tie.Need-returns Inv-loop μ-loop
 unfolding releaseOf moved busy releaseAt
 returns c = let b = c .before .before .before .before .before .before .before in
@@ -69,7 +60,6 @@ returns c = let b = c .before .before .before .before .before .before .before in
     (c .if2 .taken))
     ∙ ap (λ (x : State). releaseOf x (a .number) (a .time)) (l .inv .same)
 
--- src/calls.rt:117:33
 released-requires : tie.Need-released-requires Inv-loop μ-loop
 released-requires c κs =
     let a = c .before .before .before .before .before .before .before .args in
@@ -77,15 +67,12 @@ released-requires c κs =
     release-timely (not (isIdle ((getD (l .self .tasks) (l .i) blankTask) .status))) (a .t1 .last) (a .time)
     (sym (c .before .release-refusal .ensures) ∙ c .if2 .left) .1
 
--- src/calls.rt:117:17
 mul-t19 : tie.Need-mul-t19 Inv-loop μ-loop
 mul-t19 c = search needs
 
--- src/calls.rt:117:17
 element-set-from-self : tie.Need-element-set-from-self Inv-loop μ-loop
 element-set-from-self c = search needs
 
--- src/calls.rt:119:17
 returns-2 : tie.Need-returns-2 Inv-loop μ-loop
 unfolding releaseOf moved busy releaseAt withTask withLast
 returns-2 c = let b = c .before .before .before .before .before .before .before .before in
@@ -102,21 +89,17 @@ returns-2 c = let b = c .before .before .before .before .before .before .before 
     ∙ sym (c .before .before .release-refusal .ensures) ∙ c .before .if2 .left))
     ∙ ap (λ (x : State). releaseOf x (a .number) (a .time)) (l .inv .same)
 
--- src/calls.rt:124:13
 add-i : tie.Need-add-i Inv-loop μ-loop
 add-i c = search needs
 
--- src/calls.rt:106:9
 loop-less : tie.Need-loop-less Inv-loop μ-loop
 loop-less c = search needs
 
--- src/calls.rt:106:9
 loop-again : tie.Need-loop-again Inv-loop μ-loop
 loop-again c = let a = c .before .before .before .before .before .args in
     let l = c .before .before .before .before .loop in
     seeks-more (a .number) (a .t1) (l .self) (l .i) (c .before .before .before .before .before .pre) (l .inv) (c .before .before .before .loop-test .taken) (c .if1 .left)
 
--- src/calls.rt:99:5
 returns-3 : tie.Need-returns-3 Inv-loop μ-loop
 unfolding releaseOf moved busy releaseAt
 returns-3 c = let b = c .before .before in

@@ -1,39 +1,26 @@
-use Prim.Native.Nat.{ℕ, _+_, _<_, _≤_}
-use mathlib.Core.Path.{_≡_, refl, sym, ap, _∙_}
-use mathlib.Core.List.{[], _∷_}
+-- `State::running` meets its contract: the task that the scan meets is the running one.
+-- Assumes nothing.
+use Prim.Native.Nat.{_<_}
+use mathlib.Core.Path.{_≡_, sym, ap, _∙_}
 use native.Mathlib.Omega.{arith}
-use lib.ListN.{getD}
-use borrow.Author.Tests.{eqb-false}
-use Rattle.table.specs.declared.Task.{Task}
-use Rattle.table.specs.declared.Found.the-variants.{At, Nothing}
-use Rattle.table.specs.Entries.{blankTask, blankSem, withStatus, withHolder}
-use Rattle.table.proofs.RefusalLaws.{firstOf-none, firstOf-here, firstOf-past}
-use Rattle.executive.specs.States.{tasksOf, semsOf}
-use Rattle.executive.specs.Waits.{taskAt}
-use Rattle.executive.proofs.CallLaws.{Call, call-none, call-refused, call-done, task-at, sem-at}
-use Rattle.executive.specs.Standing.{runningOf, numberAt}
-use Rattle.executive.proofs.RunLaws.{scanned-runs, runs-below}
 use borrow.Author.Needs.{needs}
+use Rattle.table.specs.declared.Task.{Task}
+use Rattle.executive.specs.States.{tasksOf, semsOf}
+use Rattle.executive.specs.Standing.{runningOf, numberAt}
+use Rattle.executive.proofs.CallLaws.{task-at}
+use Rattle.executive.proofs.RunLaws.{scanned-runs, runs-below}
 use Rattle.executive.proofs.state.State.running.Statement.{statement}
 use Rattle.executive.proofs.state.State.running.Tie as tie
-use Rattle.executive.proofs.state.State.running.Reads as reads
-use Rattle.executive.proofs.state.State.running.Lts as lts
-use Rattle.executive.proofs.standing.met_at.Reads as met-at-reads
-use Rattle.executive.proofs.state.State.scan.Reads as scan-reads
 
--- src/standing.rt:247:27
 scan-requires : tie.Need-scan-requires
 scan-requires c κs = search needs
 
--- src/standing.rt:247:13
 met-at-requires : tie.Need-met-at-requires
 met-at-requires c κs = search needs
 
--- src/standing.rt:248:23
 enum-known-runs : tie.Need-enum-known-runs
 enum-known-runs c = search needs
 
--- src/standing.rt:249:13
 enum-told : tie.Need-enum-told
 enum-told c = search needs
 
@@ -51,20 +38,16 @@ below c =
 fits : (c : tie.After-known-told) → c .before .runs .given .0 .0 < 64
 fits c = let h = below c in let z = c .before .before .before .before .before .pre .sized in omega arith
 
--- src/standing.rt:249:13
 returns : tie.Need-returns
 unfolding numberAt
 returns c = ap (numberAt (tasksOf (c .before .before .before .before .args .t1))) (sym (c .enum-told .given .1) ∙ run (c .before .before))
 
--- src/standing.rt:251:9
 mul-result : tie.Need-mul-result
 mul-result c = omega (arith, fits c)
 
--- src/standing.rt:251:9
 element-copy-out-result : tie.Need-element-copy-out-result
 element-copy-out-result c = fits c
 
--- src/standing.rt:243:5
 returns-2 : tie.Need-returns-2
 unfolding numberAt
 returns-2 c = let b = c .before .before .before .before .before in

@@ -1,40 +1,31 @@
-use Prim.Native.Nat.{ℕ, _+_, _<_, _≤_}
+-- `State::standing` meets its contract: the scan finds the best that reaches the task.
+-- Assumes nothing.
+use Prim.Native.Nat.{ℕ, _<_}
 use mathlib.Core.Path.{_≡_, refl, sym, ap, _∙_}
-use mathlib.Core.List.{[], _∷_}
+use mathlib.Core.List.{[]}
 use native.Mathlib.Omega.{arith}
 use lib.ListN.{getD}
 use borrow.Author.Tests.{eqb-false}
-use Rattle.table.specs.declared.Task.{Task}
-use Rattle.table.specs.declared.Found.the-variants.{At, Nothing}
-use Rattle.table.specs.Entries.{blankTask, blankSem, withStatus, withHolder}
-use Rattle.table.proofs.RefusalLaws.{firstOf-none, firstOf-here, firstOf-past}
-use Rattle.executive.specs.States.{tasksOf, semsOf}
-use Rattle.executive.specs.Waits.{taskAt}
-use Rattle.executive.proofs.CallLaws.{Call, call-none, call-refused, call-done, task-at, sem-at}
-use Rattle.executive.specs.declared.standing.Stands.{Stands}
-use Rattle.executive.specs.declared.standing.Goal.the-variants.{Is}
-use Rattle.table.specs.Places.{taskPlace}
-use Rattle.executive.specs.Standing.{Rank, standingOf, ownOf, shownDeadline}
-use Rattle.executive.specs.Calls.{standsOf, shown}
-use Rattle.executive.proofs.RunLaws.{task-below, scanned-standing}
 use borrow.Author.Needs.{needs}
+use Rattle.table.specs.declared.Task.{Task}
+use Rattle.table.specs.Entries.{blankTask}
+use Rattle.table.proofs.RefusalLaws.{firstOf-none}
+use Rattle.table.specs.Places.{taskPlace}
+use Rattle.executive.specs.States.{tasksOf, semsOf}
+use Rattle.executive.specs.declared.standing.Stands.{Stands}
+use Rattle.executive.specs.Standing.{standingOf, ownOf, shownDeadline}
+use Rattle.executive.specs.Calls.{standsOf, shown}
+use Rattle.executive.proofs.CallLaws.{call-none, call-done, task-at}
+use Rattle.executive.proofs.RunLaws.{task-below, scanned-standing}
 use Rattle.executive.proofs.state.State.standing.Statement.{statement}
 use Rattle.executive.proofs.state.State.standing.Tie as tie
-use Rattle.executive.proofs.state.State.standing.Reads as reads
-use Rattle.executive.proofs.state.State.standing.Lts as lts
-use Rattle.executive.proofs.standing.deadline_shown.Reads as deadline-shown-reads
-use Rattle.executive.proofs.state.State.find_task.Reads as find-task-reads
-use Rattle.executive.proofs.state.State.scan.Reads as scan-reads
 
--- src/standing.rt:259:13
 find-task-requires : tie.Need-find-task-requires
 find-task-requires c κs = search needs
 
--- src/standing.rt:260:23
 enum-known-found : tie.Need-enum-known-found
 enum-known-found c = search needs
 
--- src/standing.rt:261:13
 enum-told : tie.Need-enum-told
 enum-told c = search needs
 
@@ -57,7 +48,6 @@ stands c =
     let b = c .before .before .before .before .before in
     scanned-standing (b .args .t1) (b .pre) (c .before .before .found .given .0 .0) (below (c .before)) (c .scan .result) (c .scan .ensures)
 
--- src/standing.rt:261:13
 returns : tie.Need-returns
 unfolding standsOf
 returns c = let s = c .before .before .before .args .t1 in
@@ -65,31 +55,24 @@ returns c = let s = c .before .before .before .args .t1 in
     (call-none 20 (λ i. []) refused (λ i. shown (standingOf (tasksOf s) (semsOf s) i)) (taskPlace (tasksOf s) (c .before .before .before .args .number))
     (sym (c .before .before .find-task .ensures) ∙ c .enum-told .given .1) (eqb-false 20 0 refl))
 
--- src/standing.rt:268:39
 cast-t10 : tie.Need-cast-t10
 cast-t10 c = let h = below c in let z = c .before .before .before .before .pre .sized in omega arith
 
--- src/standing.rt:268:13
 scan-requires : tie.Need-scan-requires
 scan-requires c κs = search needs
 
--- src/standing.rt:270:17
 mul-t : tie.Need-mul-t
 mul-t c = let h = stands c .0 in let z = c .before .before .before .before .before .pre .sized in omega arith
 
--- src/standing.rt:270:17
 element-copy-out-t : tie.Need-element-copy-out-t
 element-copy-out-t c = let h = stands c .0 in let z = c .before .before .before .before .before .pre .sized in omega arith
 
--- src/standing.rt:274:23
 deadline-shown-requires : tie.Need-deadline-shown-requires
 deadline-shown-requires c κs = search needs
 
--- src/standing.rt:275:23
 cast-t10-2 : tie.Need-cast-t10-2
 cast-t10-2 c = let h = stands (c .before .before) .0 in let z = c .before .before .before .before .before .before .before .pre .sized in omega arith
 
--- src/standing.rt:255:5
 returns-2 : tie.Need-returns-2
 unfolding standsOf shown ownOf
 returns-2 c = let s = c .before .before .before .before .before .before .before .args .t1 in

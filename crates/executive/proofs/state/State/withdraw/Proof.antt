@@ -1,5 +1,11 @@
-use mathlib.Core.Bool.{Bool, not}
+-- `State::withdraw` meets its contract: the search by number, then the refusal, then the entry anew.
+-- Assumes nothing.
+use Prim.Native.Nat.{ℕ, _-_}
+use mathlib.Core.Bool.{Bool}
 use mathlib.Core.List.{List, [], _∷_}
+use mathlib.Core.Path.{refl, sym, ap, _∙_}
+use native.Mathlib.Omega.{arith}
+use borrow.Author.Needs.{needs}
 use Rattle.table.specs.declared.Task.{Task}
 use Rattle.table.specs.declared.Status.{Status}
 use Rattle.table.specs.declared.Status.the-variants.{Ready}
@@ -7,20 +13,9 @@ use Rattle.table.specs.Entries.{withStatus}
 use Rattle.executive.specs.declared.state.State.{State}
 use Rattle.executive.specs.Waits.{waitsFor}
 use Rattle.executive.specs.Calls.{withdrawOf, noSemWait, isNone, nowDoes, moved, withTask}
-use Prim.Native.Nat.{ℕ, _-_, _≤_, _<_, _+_}
-use mathlib.Core.Path.{_≡_, refl, sym, ap, _∙_}
-use native.Mathlib.Omega.{arith}
-use borrow.Author.Needs.{needs}
-use lib.Dec.{eqb}
-use borrow.Author.Tests.{eq-eqb, ne-eqb}
-use lib.ListN.{length, getD}
 use Rattle.executive.proofs.CallLaws.{task-call-none, task-call-refused, task-call-done, Seeks, seeks-n, seeks-more, seeks-hit, seeks-end}
 use Rattle.executive.proofs.state.State.withdraw.Statement.{statement}
 use Rattle.executive.proofs.state.State.withdraw.Tie as tie
-use Rattle.executive.proofs.state.State.withdraw.Reads as reads
-use Rattle.executive.proofs.state.State.withdraw.Lts as lts
-use Rattle.executive.proofs.calls.withdraw_refusal.Reads as withdraw-refusal-reads
-use Rattle.table.proofs.Task.with_status.Reads as with-status-reads
 
 abbrev tests : Status → List (ℕ × Bool)
 tests now = (25, isNone (waitsFor now)) ∷ []
@@ -34,23 +29,18 @@ Inv-loop number self₀ n i₀ self i = Seeks number self₀ self i
 abbrev μ-loop : tie.MeasureT-loop
 μ-loop number self₀ n i₀ self i = n - i
 
--- src/calls.rt:171:9
 loop-holds : tie.Need-loop-holds Inv-loop μ-loop
 loop-holds c = record { same = refl; within = omega arith; come = refl }
 
--- src/calls.rt:172:21
 mul-t : tie.Need-mul-t Inv-loop μ-loop
 mul-t c = search needs
 
--- src/calls.rt:172:21
 element-copy-out-t : tie.Need-element-copy-out-t Inv-loop μ-loop
 element-copy-out-t c = search needs
 
--- src/calls.rt:175:21
 withdraw-refusal-requires : tie.Need-withdraw-refusal-requires Inv-loop μ-loop
 withdraw-refusal-requires c κs = tt
 
--- src/calls.rt:177:21
 returns : tie.Need-returns Inv-loop μ-loop
 unfolding withdrawOf moved noSemWait nowDoes
 returns c =
@@ -67,19 +57,15 @@ returns c =
     (c .if2 .taken))
     ∙ ap (λ (x : State). withdrawOf x (a .number)) (l .inv .same)
 
--- src/calls.rt:182:33
 with-status-requires : tie.Need-with-status-requires Inv-loop μ-loop
 with-status-requires c κs = tt
 
--- src/calls.rt:182:17
 mul-t18 : tie.Need-mul-t18 Inv-loop μ-loop
 mul-t18 c = search needs
 
--- src/calls.rt:182:17
 element-set-from-self : tie.Need-element-set-from-self Inv-loop μ-loop
 element-set-from-self c = search needs
 
--- src/calls.rt:183:17
 returns-2 : tie.Need-returns-2 Inv-loop μ-loop
 unfolding withdrawOf moved noSemWait nowDoes withTask
 returns-2 c =
@@ -96,21 +82,17 @@ returns-2 c =
     (sym (c .before .before .withdraw-refusal .ensures) ∙ c .before .if2 .left))
     ∙ ap (λ (x : State). withdrawOf x (a .number)) (l .inv .same)
 
--- src/calls.rt:188:13
 add-i : tie.Need-add-i Inv-loop μ-loop
 add-i c = search needs
 
--- src/calls.rt:171:9
 loop-less : tie.Need-loop-less Inv-loop μ-loop
 loop-less c = search needs
 
--- src/calls.rt:171:9
 loop-again : tie.Need-loop-again Inv-loop μ-loop
 loop-again c = let a = c .before .before .before .before .before .args in
     let l = c .before .before .before .before .loop in
     seeks-more (a .number) (a .t1) (l .self) (l .i) (c .before .before .before .before .before .pre) (l .inv) (c .before .before .before .loop-test .taken) (c .if1 .left)
 
--- src/calls.rt:165:5
 returns-3 : tie.Need-returns-3 Inv-loop μ-loop
 unfolding withdrawOf moved noSemWait nowDoes
 returns-3 c =
