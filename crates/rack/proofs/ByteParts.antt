@@ -71,7 +71,7 @@ pub entries-more : (counts : Counts) (l : List Task) (i : ℕ) (e : Task) → i 
 entries-more counts l i e h p q =
     let t = getD l i e in
     let more : entriesBy counts (take (i + 1) l) ≡ entriesBy counts (take i l) ++ entryBytes (t .number) (t .queue) (chargeBy counts t) =
-            ap (λ (n : ℕ). entriesBy counts (take n l)) (add-one i) ∙ (ap (entriesBy counts) (take-suc l i e h) ∙ entries-append counts (take i l) t) in
+    ap (λ (n : ℕ). entriesBy counts (take n l)) (add-one i) ∙ (ap (entriesBy counts) (take-suc l i e h) ∙ entries-append counts (take i l) t) in
     rw more (put-more (entriesBy counts (take i l)) (entryBytes (t .number) (t .queue) (chargeBy counts t)) p q)
 
 -- the rest of so many bytes, all the same

@@ -1,6 +1,6 @@
 -- The calls of a script, told by their first byte, and a script played record by record.
 -- Assumes nothing.
-use Prim.Native.Nat.{ℕ, zero, suc, _+_, _-_, _*_, _≤_, _<_}
+use Prim.Native.Nat.{ℕ, zero, suc, _+_, _-_, _*_, _/_, _%_, _≤_, _<_}
 use mathlib.Core.Path.{_≡_, refl, sym, ap, subst, _∙_}
 use mathlib.Core.Logic.{_⊎_, inl, inr, ⊎-elim}
 use mathlib.Core.Bool.{Bool, true, false, cond}
@@ -9,11 +9,9 @@ use native.Mathlib.Nat.{sub-zero}
 use native.Mathlib.Omega.{arith}
 use lib.Dec.{eqb}
 use lib.ListN.{length, getD}
-use borrow.Author.Tests.{ne-eqb}
+use lib.Seq.{sets}
+use borrow.Author.Tests.{lt-ltb, le-ltb, eq-eqb, ne-eqb}
 use Rattle.fields.specs.Fields.{readAt}
-use Rattle.table.specs.declared.Holder.{Holder}
-use Rattle.table.specs.declared.Holder.the-variants.{Free, By}
-use Rattle.table.specs.Refusals.{answered}
 use Rattle.lines.specs.Lines.{Put}
 use Rattle.lines.proofs.PutLaws.{put-none, put-more}
 use Rattle.executive.specs.declared.state.State.{State}
@@ -22,12 +20,39 @@ use Rattle.executive.specs.States.{tasksOf, semsOf}
 use Rattle.executive.specs.Sound.{Sound}
 use Rattle.executive.specs.Standing.{numberAt, runningOf}
 use Rattle.executive.specs.Calls.{
-  moved, standsOf, takeOrWait, acquireAt, releaseOf, signalOf, withdrawOf, acquireOf, giveOf, completeOf, blockOf
+  moved,
+  standsOf,
+  releaseOf,
+  signalOf,
+  withdrawOf,
+  acquireOf,
+  giveOf,
+  completeOf,
+  blockOf,
+}
+use Rattle.executive.proofs.RefusedLaws.{
+  Same,
+  release-same,
+  signal-same,
+  withdraw-same,
+  acquire-same,
+  give-same,
+  complete-same,
+  block-same,
 }
 use Rattle.executive.proofs.SoundCalls.{
-  release-sound, signal-sound, withdraw-sound, acquire-sound, give-sound, complete-sound, block-sound
+  release-sound,
+  signal-sound,
+  withdraw-sound,
+  acquire-sound,
+  give-sound,
+  complete-sound,
+  block-sound,
 }
-use Rattle.rack.specs.Boundary.{calledBy, partOf, playFrom}
+use Rattle.executive.specs.declared.standing.Stands.{Stands}
+use Rattle.rack.specs.Boundary.{calledBy, playedPart, partOf, playFrom, notPlayed, Played}
+use Rattle.image.specs.declared.load.Loaded.{Loaded}
+use Rattle.image.specs.Loading.{loadOf}
 use Rattle.rack.proofs.ByteParts.{part-long}
 
 module _ (s : State) (script : List ℕ) (at : ℕ) where
@@ -72,34 +97,33 @@ module _ (s : State) (script : List ℕ) (at : ℕ) where
 abbrev Kept : State → Moved → Type 0
 Kept s m = (m .answer ≡ 0 → ⊥) → (m .answer ≡ 90 → ⊥) → m .state ≡ s
 
-kept : (s : State) (k : ℕ) (done : Moved) → (done .answer ≡ 0) ⊎ (done .answer ≡ 90) → Kept s (answered k (moved s) done)
-unfolding answered moved
-kept s k done ok = go (eqb k 0)
-  where
-    go : (b : Bool) → Kept s (cond b done (moved s k))
-    go true n w = absurd (⊎-elim n w ok)
-    go false n w = refl
-
-take-answer : (s : State) (i k : ℕ) (h : Holder) → ((takeOrWait s i k h) .answer ≡ 0) ⊎ ((takeOrWait s i k h) .answer ≡ 90)
-unfolding takeOrWait moved
-take-answer s i k Free = inl refl
-take-answer s i k (By j) = inr refl
-
 choose-kept : (b : Bool) (s : State) (x y : Moved) → Kept s x → Kept s y → Kept s (cond b x y)
 choose-kept true s x y h k = h
 choose-kept false s x y h k = k
 
+kept : (s : State) (m : Moved) → Same s m → Kept s m
+kept s m (inl e) n w = absurd (n e)
+kept s m (inr e) n w = e
+
 pub refused-kept : (s : State) (script : List ℕ) (at : ℕ) → Kept s (calledBy s script at)
-unfolding calledBy releaseOf signalOf withdrawOf acquireOf acquireAt giveOf completeOf blockOf moved
+unfolding calledBy moved
 refused-kept s script at =
     let x = getD script at 0 in
-    choose-kept (eqb x 1) s _ _ (kept s _ _ (inl refl))
-    (choose-kept (eqb x 2) s _ _ (kept s _ _ (inl refl))
-    (choose-kept (eqb x 3) s _ _ (kept s _ _ (inl refl))
-    (choose-kept (eqb x 4) s _ _ (kept s _ _ (take-answer s _ _ _))
-    (choose-kept (eqb x 5) s _ _ (kept s _ _ (inl refl))
-    (choose-kept (eqb x 6) s _ _ (kept s _ _ (inl refl))
-    (choose-kept (eqb x 7) s _ _ (kept s _ _ (inl refl)) (λ n w. refl)))))))
+    let number = readAt 2 script (at + 2) in
+    choose-kept (eqb x 1) s _ _ (kept s _ (release-same s number (readAt 8 script (at + 8))))
+    (choose-kept (eqb x 2) s _ _ (kept s _ (signal-same s number))
+    (choose-kept (eqb x 3) s _ _ (kept s _ (withdraw-same s number))
+    (choose-kept (eqb x 4) s _ _ (λ n w. ⊎-elim (λ e. absurd (w e)) (λ e. kept s (acquireOf s number) e n w) (acquire-same s number))
+    (choose-kept (eqb x 5) s _ _ (kept s _ (give-same s number))
+    (choose-kept (eqb x 6) s _ _ (kept s _ (complete-same s))
+    (choose-kept (eqb x 7) s _ _ (kept s _ (block-same s)) (λ n w. refl)))))))
+
+-- the same of what a call handed back
+pub kept-by : (s : State) (script : List ℕ) (at : ℕ) (r : Moved) → r ≡ calledBy s script at → (((r .answer ≡ 0) ⊎ (r .answer ≡ 90)) → ⊥)
+    → s ≡ (calledBy s script at) .state
+kept-by s script at r e n =
+    sym
+    (refused-kept s script at (λ h. n (inl (ap (λ (m : Moved). m .answer) e ∙ h))) (λ h. n (inr (ap (λ (m : Moved). m .answer) e ∙ h))))
 
 choose-sound : (b : Bool) (x y : Moved) → Sound (x .state) → Sound (y .state) → Sound ((cond b x y) .state)
 choose-sound true x y h k = h
@@ -161,12 +185,25 @@ playing-on from script count before after next state state′ i end p h same put
       done = p .done ++ part;
       put = record { contents = all .contents; ends = omega arith };
       whole =
-        append-assoc (p .done) part (playFrom state′ script ((i + 1) * 16) (count - (i + 1)))
-        ∙ (ap (λ (l : List ℕ). p .done ++ (part ++ l))
+          append-assoc (p .done) part (playFrom state′ script ((i + 1) * 16) (count - (i + 1)))
+          ∙ (ap (λ (l : List ℕ). p .done ++ (part ++ l))
           (ap (λ (x : State). playFrom x script ((i + 1) * 16) (count - (i + 1))) same
           ∙ ap (λ (k : ℕ). playFrom (m .state) script k (count - (i + 1))) (sym at))
-        ∙ (ap (λ (k : ℕ). p .done ++ playFrom state script (i * 16) k) (sym more) ∙ p .whole));
+          ∙ (ap (λ (k : ℕ). p .done ++ playFrom state script (i * 16) k) (sym more) ∙ p .whole));
     }
+
+-- the part of a record, from what was asked of the state after the call
+pub part-put : (s : State) (script : List ℕ) (at : ℕ) (state : State) (r : Moved) (runs : ℕ) (stands : Stands) (ask : ℕ)
+    → state ≡ (calledBy s script at) .state → r ≡ calledBy s script at
+    → runs ≡ numberAt (tasksOf state) (runningOf (tasksOf state) (semsOf state)) → stands ≡ standsOf state ask → ask ≡ readAt 2 script (at + 4)
+    → {a b : List ℕ} {place end : ℕ} → Put a place (playedPart (r .answer) runs stands) b end → Put a place (partOf script at (calledBy s script at)) b end
+unfolding partOf
+part-put s script at state r runs stands ask e f g h k p =
+    let m = calledBy s script at in
+    let running : runs ≡ numberAt (tasksOf (m .state)) (runningOf (tasksOf (m .state)) (semsOf (m .state))) =
+    g ∙ ap (λ (x : State). numberAt (tasksOf x) (runningOf (tasksOf x) (semsOf x))) e in
+    let standing : stands ≡ standsOf (m .state) (readAt 2 script (at + 4)) = h ∙ (ap (λ (x : State). standsOf x ask) e ∙ ap (standsOf (m .state)) k) in
+    rw (ap (λ (x : Moved). x .answer) f, running, standing) at p
 
 -- at the end all is put
 pub playing-end : (from : State) (script : List ℕ) (count : ℕ) (before after : List ℕ) (state : State) (i : ℕ)
@@ -176,5 +213,45 @@ playing-end from script count before after state i p h =
     let n : i ≡ count = let a = p .inside in omega arith in
     let none : count - i ≡ 0 = omega arith in
     let all : p .done ≡ playFrom from script 0 count =
-            sym (append-nil (p .done)) ∙ (ap (λ (k : ℕ). p .done ++ playFrom state script (i * 16) k) (sym none) ∙ p .whole) in
+    sym (append-nil (p .done)) ∙ (ap (λ (k : ℕ). p .done ++ playFrom state script (i * 16) k) (sym none) ∙ p .whole) in
     rw (all, n) at (p .put)
+
+-- a script that is not played leaves the buffer as it was
+played-not : (image script out : List ℕ) → notPlayed image script out ≡ true → Played image script out out 0
+played-not image script out h = record { contents = rw h; number = rw h }
+
+pub played-odd : (image script out : List ℕ) → (length script % 16 ≡ 0 → ⊥) → Played image script out out 0
+unfolding notPlayed
+played-odd image script out h = played-not image script out (rw (ne-eqb (length script % 16) 0 h))
+
+pub played-short : (image script out : List ℕ) → length script % 16 ≡ 0 → length out / 32 < length script / 16 → Played image script out out 0
+unfolding notPlayed
+played-short image script out h k = played-not image script out (rw (eq-eqb (length script % 16) 0 h, lt-ltb (length out / 32) (length script / 16) k))
+
+pub played-refused : (image script out : List ℕ) (l : Loaded) → length script % 16 ≡ 0 → length script / 16 ≤ length out / 32 → l ≡ loadOf image
+    → (l .number ≡ 0 → ⊥) → Played image script out out 0
+unfolding notPlayed
+played-refused image script out l h k e n =
+    played-not image script out
+    (rw (
+      eq-eqb (length script % 16) 0 h,
+      le-ltb (length out / 32) (length script / 16) k,
+      ne-eqb ((loadOf image) .number) 0 (λ z. n (ap (λ (x : Loaded). x .number) e ∙ z)),
+    ))
+
+-- else it is played
+pub played-all : (image script out after : List ℕ) (l : Loaded) → length script % 16 ≡ 0 → length script / 16 ≤ length out / 32 → l ≡ loadOf image
+    → l .number ≡ 0 → Put out 0 (playFrom (l .state) script 0 (length script / 16)) after (length script / 16 * 32)
+    → Played image script out after (length script / 16)
+unfolding notPlayed
+played-all image script out after l h k e n p =
+    let no : notPlayed image script out ≡ false =
+    rw (
+      eq-eqb (length script % 16) 0 h,
+      le-ltb (length out / 32) (length script / 16) k,
+      eq-eqb ((loadOf image) .number) 0 (sym (ap (λ (x : Loaded). x .number) e) ∙ n),
+    ) in
+    record {
+      contents = rw no (p .contents ∙ ap (λ (x : Loaded). sets out 0 (playFrom (x .state) script 0 (length script / 16))) e);
+      number = rw no;
+    }

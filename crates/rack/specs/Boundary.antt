@@ -16,7 +16,15 @@ use Rattle.executive.specs.declared.standing.Stands.{Stands}
 use Rattle.executive.specs.States.{tasksOf, semsOf}
 use Rattle.executive.specs.Standing.{numberAt, runningOf}
 use Rattle.executive.specs.Calls.{
-  moved, standsOf, releaseOf, signalOf, withdrawOf, acquireOf, giveOf, completeOf, blockOf
+  moved,
+  standsOf,
+  releaseOf,
+  signalOf,
+  withdrawOf,
+  acquireOf,
+  giveOf,
+  completeOf,
+  blockOf,
 }
 use Rattle.charges.specs.declared.Counts.{Counts}
 use Rattle.charges.specs.Charges.{countsOf, chargeBy}
@@ -41,14 +49,14 @@ entriesBy counts (t ∷ rest) = entryBytes (t .number) (t .queue) (chargeBy coun
 unfoldable pub entriesBytes : List Task → Board → List ℕ
 entriesBytes tasks board = entriesBy (countsOf tasks board) tasks
 
--- the bytes of a judged state, and of a load that was refused
-unfoldable pub stateBytes : State → List ℕ
-stateBytes s =
-    headBytes 0 ((verdictOf (tasksOf s) (s .board)) .number) 0 ((verdictOf (tasksOf s) (s .board)) .task) (s .n)
-    ++ entriesBytes (tasksOf s) (s .board)
+-- the bytes of a load that was judged, and of one that was refused
+unfoldable pub acceptedBytes : Loaded → Verdict → List ℕ
+acceptedBytes l v =
+    headBytes (l .number) (v .number) (l .place) (v .task) ((l .state) .n) ++ entriesBytes (tasksOf (l .state)) ((l .state) .board)
 
 unfoldable pub judgedBytes : Loaded → List ℕ
-judgedBytes l = cond (eqb (l .number) 0) (stateBytes (l .state)) (headBytes (l .number) 0 (l .place) 0 0)
+judgedBytes l =
+    cond (eqb (l .number) 0) (acceptedBytes l (verdictOf (tasksOf (l .state)) ((l .state) .board))) (headBytes (l .number) 0 (l .place) 0 0)
 
 -- the rest up to 1,032 becomes 0
 unfoldable pub judgedAll : Loaded → List ℕ

@@ -31,7 +31,14 @@ pub extern "C" fn rack_judge(image: &[u8], out: &mut [u8]) -> u64
     let state = loaded.state;
     let n = state.n;
     let verdict = judging::judge::judge(state);
-    put_head(out, number, verdict.number, place as u64, verdict.task as u64, n as u64);
+    put_head(
+        out,
+        number,
+        verdict.number,
+        place as u64,
+        verdict.task as u64,
+        n as u64,
+    );
     let end = put_entries(out, state);
     put_zeros(out, end);
     end as u64

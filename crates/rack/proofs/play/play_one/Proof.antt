@@ -45,48 +45,48 @@ block-requires : tie.Need-block-requires
 block-requires c κs = search needs
 
 returns : tie.Need-returns
-returns c = 
+returns c =
     let a = c .before .before .before .before .before .before .args in
     c .release .ensures
     ∙ called-release (a .state) (now (a .script)) (a .at) (c .before .before .before .u16-at .result) (c .before .u64-at .result) (c .before .before .match .keys1) (c .before .before .before .u16-at .ensures) (c .before .u64-at .ensures)
 
 returns-2 : tie.Need-returns-2
-returns-2 c = 
+returns-2 c =
     let a = c .before .before .before .before .before .args in
     c .signal .ensures
     ∙ called-signal (a .state) (now (a .script)) (a .at) (c .before .before .u16-at .result) (c .before .match .keys2) (c .before .before .u16-at .ensures)
 
 returns-3 : tie.Need-returns-3
-returns-3 c = 
+returns-3 c =
     let a = c .before .before .before .before .before .args in
     c .withdraw .ensures
     ∙ called-withdraw (a .state) (now (a .script)) (a .at) (c .before .before .u16-at .result) (c .before .match .keys3) (c .before .before .u16-at .ensures)
 
 returns-4 : tie.Need-returns-4
-returns-4 c = 
+returns-4 c =
     let a = c .before .before .before .before .before .args in
     c .acquire .ensures
     ∙ called-acquire (a .state) (now (a .script)) (a .at) (c .before .before .u16-at .result) (c .before .match .keys4) (c .before .before .u16-at .ensures)
 
 returns-5 : tie.Need-returns-5
-returns-5 c = 
+returns-5 c =
     let a = c .before .before .before .before .before .args in
     c .give .ensures
     ∙ called-give (a .state) (now (a .script)) (a .at) (c .before .before .u16-at .result) (c .before .match .keys5) (c .before .before .u16-at .ensures)
 
 returns-6 : tie.Need-returns-6
-returns-6 c = 
+returns-6 c =
     let a = c .before .before .before .before .before .args in
     c .complete .ensures ∙ called-complete (a .state) (now (a .script)) (a .at) (c .before .match .keys6)
 
 returns-7 : tie.Need-returns-7
-returns-7 c = 
+returns-7 c =
     let a = c .before .before .before .before .before .args in
     c .block .ensures ∙ called-block (a .state) (now (a .script)) (a .at) (c .before .match .keys7)
 
 returns-8 : tie.Need-returns-8
 unfolding moved
-returns-8 c = 
+returns-8 c =
     let a = c .before .before .before .before .args in
     let other = c .match .rest in
     called-none (a .state) (now (a .script)) (a .at) (other .0 .0 .0 .0 .0 .0 .1) (other .0 .0 .0 .0 .0 .1) (other .0 .0 .0 .0 .1) (other .0 .0 .0 .1)

@@ -45,7 +45,7 @@ same-length : tie.Need-same-length
 same-length c = search needs
 
 returns : tie.Need-returns
-returns c = 
+returns c =
     let a = c .before .before .before .before .before .before .before .before .before .args in
     rw (c .before .before .before .before .before .before .put-u64 .ensures, part-bytes (a .answer) (a .running) (a .stands)) at (c .before .before .put-word .ensures)
 

@@ -44,7 +44,7 @@ charge-requires : tie.Need-charge-requires Inv-loop μ-loop
 charge-requires c κs = let s = c .before .before .before .before .before .before .before .before .args .state in fit-of (c .before .before .before .before .before .of .result) (take (s .n) (s .tasks)) (s .board) (c .before .before .before .before .before .of .ensures)
 
 put-entry-requires : tie.Need-put-entry-requires Inv-loop μ-loop
-put-entry-requires c κs = 
+put-entry-requires c κs =
     let z = c .before .before .before .before .before .before .before .before .before .pre .0 .sized in
     let l = put-length (c .before .before .before .before .before .loop .inv .2) in
     omega arith
@@ -56,7 +56,7 @@ loop-less : tie.Need-loop-less Inv-loop μ-loop
 loop-less c = omega arith
 
 loop-again : tie.Need-loop-again Inv-loop μ-loop
-loop-again c = 
+loop-again c =
     let s = c .before .before .before .before .before .before .before .before .before .before .before .before .args .state in
     let z = c .before .before .before .before .before .before .before .before .before .before .before .before .pre .0 .sized in
     let loop = c .before .before .before .before .before .before .before .before .loop in
@@ -73,7 +73,7 @@ same-length c = put-length (c .before .loop .inv .2)
 
 returns : tie.Need-returns Inv-loop μ-loop
 unfolding entriesBytes tasksOf
-returns c = 
+returns c =
     let s = c .before .before .before .before .before .args .state in
     let z = c .before .before .before .before .before .pre .0 .sized in
     let n : c .before .loop .i ≡ s .n = omega arith in

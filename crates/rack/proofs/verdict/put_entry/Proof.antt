@@ -36,7 +36,7 @@ same-length : tie.Need-same-length
 same-length c = search needs
 
 returns : tie.Need-returns
-returns c = 
+returns c =
     let a = c .before .before .before .before .before .before .before .before .before .args in
     rw (c .before .before .before .before .before .before .put-u64 .ensures, entry-bytes (a .number) (a .queue) (a .charge)) at (c .before .before .put-word .ensures)
 

@@ -23,7 +23,7 @@ same-length : tie.Need-same-length
 same-length c = search needs
 
 returns : tie.Need-returns
-returns c = 
+returns c =
     let a = c .before .before .before .before .before .before .before .args in
     put-rest (now (a .out)) (c .before .before .put-word .last .0) (a .at) 1032 0 (c .before .before .put-word .result) (omega arith) (c .before .before .put-word .ensures)
 
