@@ -1,8 +1,9 @@
--- What is shown of the whole executive: the proofs.
+-- What is shown of the whole executive: the proofs. `Shown` has the demands.
 pub mod CaseLaws
 pub mod Exactly
 pub mod FirstLaws
 pub mod Numbers
 pub mod Replay
+pub mod Shown
 pub mod Tightness
 pub mod Undone

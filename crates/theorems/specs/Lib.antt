@@ -1,6 +1,8 @@
 -- What is shown of the whole executive: the statements.
 pub mod Cases
+pub mod Comes
 pub mod Conditions
+pub mod Demands
 pub mod Histories
 pub mod Tight
 pub mod Undo

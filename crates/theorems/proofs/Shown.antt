@@ -1,0 +1,139 @@
+-- The user's three demands, shown: each statement of specs/Demands.antt under its name in lower case.
+-- Assumes nothing.
+use Prim.Native.Nat.{ℕ, _%_, _≤_, _<_}
+use mathlib.Core.Path.{_≡_, refl, sym, ap, subst, _∙_}
+use mathlib.Core.Logic.{_↔_, _≢_, _⊎_, inl, inr}
+use mathlib.Core.Bool.{Bool, true, false, not, _||_}
+use mathlib.Core.List.{List, [], _∷_}
+use native.Mathlib.Omega.{arith}
+use lib.Dec.{eqb, ltb}
+use lib.ListN.{length}
+use borrow.Author.Tests.{eqb-true, eqb-false, eq-eqb, ne-eqb, ltb-true, lt-ltb, not-true}
+use Rattle.table.proofs.RefusalLaws.{answered-refused}
+use Rattle.executive.specs.declared.state.State.{State}
+use Rattle.executive.specs.States.{tasksOf, semsOf}
+use Rattle.executive.specs.Sound.{Sound}
+use Rattle.executive.specs.Standing.{standingOf, runningOf}
+use Rattle.executive.specs.Reaches.{IsStanding}
+use Rattle.executive.proofs.SoundCalls.{
+  release-sound, signal-sound, withdraw-sound, acquire-sound, give-sound, complete-sound, block-sound
+}
+use Rattle.executive.proofs.DispatchLaws as Dispatch
+use Rattle.judging.proofs.PassLaws as Pass
+use Rattle.image.specs.Loading.{badLength}
+use Rattle.image.specs.Writing.{encoded, tableOf, badBuffer, writeNumber, written}
+use Rattle.image.proofs.RoundTrips as Trips
+use Rattle.theorems.specs.Comes.{Comes, loaded, from-call}
+use Rattle.theorems.specs.Demands
+use Rattle.theorems.specs.Histories.{
+  Call, release, signal, withdraw, acquire, give, complete, block, called, after, acceptedOf
+}
+use Rattle.theorems.specs.When.{FirstThat}
+use Rattle.theorems.proofs.Exactly as Exactly
+use Rattle.theorems.proofs.FirstLaws.{nothing-more, test-says, first-that}
+use Rattle.theorems.proofs.Numbers as Numbers
+use Rattle.theorems.proofs.Replay as Replay
+use Rattle.theorems.proofs.Undone as Undo
+
+-- each call keeps a sound state sound
+call-sound : (s : State) → Sound s → (c : Call) → Sound ((called s c) .state)
+unfolding called
+call-sound s sound (release number time) = release-sound s sound number time
+call-sound s sound (signal number) = signal-sound s sound number
+call-sound s sound (withdraw number) = withdraw-sound s sound number
+call-sound s sound (acquire number) = acquire-sound s sound number
+call-sound s sound (give number) = give-sound s sound number
+call-sound s sound complete = complete-sound s sound
+call-sound s sound block = block-sound s sound
+
+pub comes-sound : Demands.ComesSound
+comes-sound s (loaded image bytes) = Trips.loaded-sound image bytes
+comes-sound s (from-call {s = before} c h) = call-sound before (comes-sound before h) c
+
+pub comes-well-formed : Demands.ComesWellFormed
+comes-well-formed s h = (comes-sound s h) .table
+
+-- every state after a list of calls comes too
+comes-after : (s : State) → Comes s → (calls : List Call) → Comes (after s calls)
+unfolding after
+comes-after s h [] = h
+comes-after s h (c ∷ rest) = comes-after ((called s c) .state) (from-call c h) rest
+
+pub call-numbers : Demands.CallNumbers
+call-numbers s h c = Numbers.call-numbers s (comes-sound s h) c
+
+pub call-when : Demands.CallWhen
+call-when s h c k = Exactly.call-when s (comes-sound s h) c k
+
+pub refused-same : Demands.RefusedSame
+refused-same s c h = Replay.refused-same s c h
+
+pub refused-write : Demands.RefusedWrite
+unfolding written
+refused-write s buffer h = answered-refused (writeNumber s (length buffer)) (λ number. buffer) _ h
+
+-- the tests of a buffer's length in 01's words
+bad-says : (s : State) (bytes : ℕ)
+    → (badBuffer s bytes ≡ true) ↔ ((bytes % 32 ≢ 0) ⊎ ((4096 < bytes) ⊎ (bytes < length (encoded (tableOf s)))))
+unfolding badBuffer badLength
+bad-says s bytes =
+    ( go (eqb (bytes % 32) 0) (ltb 4096 bytes) (ltb bytes (length (encoded (tableOf s)))) refl refl refl
+    , λ w. back w)
+  where
+    go : (a b c : Bool) → eqb (bytes % 32) 0 ≡ a → ltb 4096 bytes ≡ b → ltb bytes (length (encoded (tableOf s))) ≡ c
+        → ((not a || b) || c) ≡ true → (bytes % 32 ≢ 0) ⊎ ((4096 < bytes) ⊎ (bytes < length (encoded (tableOf s))))
+    go false b c ea eb ec h = inl (eqb-false (bytes % 32) 0 ea)
+    go true true c ea eb ec h = inr (inl (ltb-true 4096 bytes eb))
+    go true false true ea eb ec h = inr (inr (ltb-true bytes (length (encoded (tableOf s))) ec))
+    go true false false ea eb ec h = let z : _≡_ {A = ℕ} 0 1 = cc in absurd (omega arith)
+    back : (bytes % 32 ≢ 0) ⊎ ((4096 < bytes) ⊎ (bytes < length (encoded (tableOf s))))
+        → ((not (eqb (bytes % 32) 0) || ltb 4096 bytes) || ltb bytes (length (encoded (tableOf s)))) ≡ true
+    back (inl h) = rw (ne-eqb (bytes % 32) 0 h)
+    back (inr (inl h)) = rw (lt-ltb 4096 bytes h, mathlib.Core.Bool.or-true (not (eqb (bytes % 32) 0)))
+    back (inr (inr h)) =
+        rw (lt-ltb bytes (length (encoded (tableOf s))) h) (mathlib.Core.Bool.or-true (not (eqb (bytes % 32) 0) || ltb 4096 bytes))
+
+pub write-when : Demands.WriteWhen
+unfolding writeNumber
+write-when s bytes k =
+    first-that
+    (test-says (eqb-true (s .n) 0, eq-eqb (s .n) 0) (λ some. test-says (bad-says s bytes) (λ good. nothing-more))) k
+
+pub refused-load : Demands.RefusedLoad
+refused-load = Trips.refused-empty
+
+pub accepted-exactly : Demands.AcceptedExactly
+accepted-exactly image bytes = (Trips.loads-accepted image bytes, Trips.accepted-loads image)
+
+pub write-after-load : Demands.WriteAfterLoad
+write-after-load = Trips.rewritten
+
+pub load-after-write : Demands.LoadAfterWrite
+load-after-write s h some buffer n = Trips.reloaded s (comes-sound s h) some buffer n
+
+pub passes-exactly : Demands.PassesExactly
+passes-exactly s h some = Pass.passes-exactly (tasksOf s) (semsOf s) (s .board) (s .present) (comes-well-formed s h some)
+
+pub runs-best : Demands.RunsBest
+runs-best s h i e = Dispatch.runs-best s (comes-sound s h) i e
+
+pub runs-none : Demands.RunsNone
+runs-none s h =
+    let sound = comes-sound s h in
+    ( λ e. Dispatch.runs-none s sound (Dispatch.runs-zero s sound e)
+    , λ w. Dispatch.zero-runs s sound (Dispatch.none-runs s sound w))
+
+pub replayed : Demands.Replayed
+replayed s calls = (Replay.replay-state s calls, Replay.replay-answers s calls)
+
+pub afresh : Demands.Afresh
+afresh s h calls i below =
+    subst (λ (r : State). IsStanding (tasksOf (after s (acceptedOf s calls))) (semsOf (after s (acceptedOf s calls))) i (standingOf (tasksOf r) (semsOf r) i))
+    (Replay.replay-state s calls)
+    (Dispatch.standing-is (after s (acceptedOf s calls)) (comes-sound (after s (acceptedOf s calls)) (comes-after s h (acceptedOf s calls))) i below)
+
+pub nobody-waits : Demands.NobodyWaits
+nobody-waits s h i below none = Dispatch.nobody-waits s (comes-sound s h) i below none
+
+pub undone : Demands.Undone
+undone s h sem n calls pulses = Undo.undone s (comes-sound s h) sem n calls pulses
