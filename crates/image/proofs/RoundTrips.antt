@@ -4,7 +4,7 @@
 --     rewritten, rewritten-same         write after load: a buffer of the image's length gets that image back, a longer one 255 behind it
 --     reloaded                          load after write: what is written loads with 0, and gives the state as after loading
 --     loaded-well-formed                the table that was loaded is well formed
---     loaded-sound                      the state that loading hands back is sound
+--     loaded-sound, sound-of            the state that loading hands back is sound
 --     refused-empty                     a refused load hands back the empty state
 -- Assumes nothing.
 use Prim.Native.Nat.{ℕ, suc, _+_, _-_, _*_, _/_, _%_, _≤_}
@@ -237,3 +237,7 @@ loaded-sound image bytes = go (image-empty image)
         let e = ended image bytes h in
         subst Sound (sym (ap (λ (l : Loaded). l .state) (e .same))) (state-sound (e .table) (e .front) (e .growing) (e .some))
     go (inr h) = subst Sound (sym h) empty-sound
+
+-- the same of what a load answered
+pub sound-of : (image : List ℕ) (l : Loaded) → l ≡ loadOf image → Bytes image → Sound (l .state)
+sound-of image l e bytes = subst (λ (x : Loaded). Sound (x .state)) (sym e) (loaded-sound image bytes)

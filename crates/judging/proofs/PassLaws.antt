@@ -10,9 +10,6 @@ use native.Mathlib.Omega.{arith}
 use lib.Dec.{eqb}
 use lib.ListN.{length}
 use borrow.Author.Tests.{ltb-true, ltb-false, le-ltb, eqb-true, eq-eqb, ne-eqb, eqb-false}
-use contract.Lifetimes.{Lfts}
-use borrow.Fn.Kinds.{Dens, resT, endedOf}
-use denote.Triple.Clauses.{AtExit}
 use Rattle.table.specs.declared.Board.{Board}
 use Rattle.table.specs.declared.Task.{Task}
 use Rattle.table.specs.declared.Sem.{Sem}
@@ -45,8 +42,6 @@ use Rattle.judging.proofs.FirstLaws.{first-none, none-first, first-foun
 use Rattle.judging.proofs.DemandLaws.{decided-yes, yes-decided, no-decided}
 use Rattle.judging.proofs.ColumnLaws.{queues-length, columns-range}
 use Rattle.judging.proofs.VerdictLaws.{shared-common, outcome-0}
-use Rattle.judging.proofs.judge.judge.Kinds as judge-kinds
-use Rattle.judging.proofs.judge.judge.Reads as judge-reads
 
 -- a late task, and one that is not
 gate-open : (a b : Bool) → (a && not b) ≡ false → a ≡ true → b ≡ true
@@ -178,8 +173,3 @@ passes-exactly tasks sems board present wf =
           ap (λ (o : Outcome). o .number)
           (sym (passed (queuesOf tasks) (periodsOf tasks) (loadsOf tasks board) r (omega (arith, wf .some, queues-length tasks)) f)),
     )
-
--- any two verdicts that the contract of judging allows of one state are equal
-pub judge-one : (κs : Lfts 0) (a : Dens κs judge-kinds.ps) (z z′ : resT judge-kinds.r κs .Denot) (e e′ : AtExit (endedOf 0 judge-kinds.ps judge-kinds.r) κs)
-    → judge-reads.Post κs a z e → judge-reads.Post κs a z′ e′ → z ≡ z′
-judge-one κs a z z′ e e′ p q = p ∙ sym q

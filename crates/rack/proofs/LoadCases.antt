@@ -10,22 +10,15 @@ use lib.Dec.{eqb}
 use lib.ListN.{length, replicate}
 use lib.Seq.{sets}
 use borrow.Author.Tests.{lt-ltb, le-ltb, eq-eqb, ne-eqb}
-use Rattle.records.specs.Records.{Bytes}
-use Rattle.executive.specs.Sound.{Sound}
 use Rattle.image.specs.declared.load.Loaded.{Loaded}
 use Rattle.image.specs.Loading.{loadOf}
 use Rattle.image.specs.Writing.{writeNumber, written}
-use Rattle.image.proofs.RoundTrips.{loaded-sound}
 use Rattle.lines.specs.Lines.{Put}
 use Rattle.lines.proofs.PutLaws.{put-more}
 use Rattle.executive.specs.States.{tasksOf}
 use Rattle.judging.specs.declared.Verdict.{Verdict}
 use Rattle.judging.specs.Verdicts.{verdictOf}
 use Rattle.rack.specs.Boundary.{headBytes, entriesBytes, acceptedBytes, judgedBytes, judgedAll, Judged}
-
--- what was loaded is sound
-pub sound-of : (image : List ℕ) (l : Loaded) → l ≡ loadOf image → Bytes image → Sound (l .state)
-sound-of image l e bytes = subst (λ (x : Loaded). Sound (x .state)) (sym e) (loaded-sound image bytes)
 
 module _ (image : List ℕ) (l : Loaded) (buffer : List ℕ) (e : l ≡ loadOf image) where
   module _ (h : l .number ≢ 0) where

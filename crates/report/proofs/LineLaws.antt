@@ -22,9 +22,6 @@ use Rattle.judging.specs.Verdicts.{verdictOf}
 use Rattle.executive.specs.States.{tasksOf}
 use Rattle.image.specs.declared.load.Loaded.{Loaded}
 use Rattle.image.specs.Loading.{loadOf}
-use Rattle.image.proofs.RoundTrips.{loaded-sound}
-use Rattle.records.specs.Records.{Bytes}
-use Rattle.executive.specs.Sound.{Sound}
 use Rattle.report.specs.Report.{
   Reported,
   reportOf,
@@ -100,7 +97,3 @@ unfolding reportOf stateLines
 report-accepted image l e h =
     subst (λ (x : Loaded). cond (eqb (x .number) 0) (stateLines (x .state)) (imageLine x) ≡ stateLines (l .state)) e
     (rw (eq-eqb (l .number) 0 h))
-
--- what was loaded is sound
-pub sound-of : (image : List ℕ) (l : Loaded) → l ≡ loadOf image → Bytes image → Sound (l .state)
-sound-of image l e bytes = subst (λ (x : Loaded). Sound (x .state)) (sym e) (loaded-sound image bytes)

@@ -9,7 +9,8 @@ use Rattle.executive.specs.States.{tasksOf}
 use Rattle.judging.specs.Verdicts.{verdictOf}
 use Rattle.lines.proofs.PutLaws.{put-more}
 use Rattle.report.specs.Report.{imageWord, taskLines, verdictLine}
-use Rattle.report.proofs.LineLaws.{line-short, verdict-short, sound-of, reported-short, reported-put, report-refused, report-accepted}
+use Rattle.image.proofs.RoundTrips.{sound-of}
+use Rattle.report.proofs.LineLaws.{line-short, verdict-short, reported-short, reported-put, report-refused, report-accepted}
 use borrow.Author.Needs.{needs}
 use Rattle.report.proofs.report.Statement.{statement}
 use Rattle.report.proofs.report.Tie as tie

@@ -2,7 +2,7 @@
 -- Assumes nothing.
 use native.Mathlib.Omega.{arith}
 use denote.Ref.{now}
-use Rattle.rack.proofs.LoadCases.{sound-of}
+use Rattle.image.proofs.RoundTrips.{sound-of}
 use Rattle.rack.proofs.PlayLaws.{played-odd, played-short, played-refused, played-all}
 use borrow.Author.Needs.{needs}
 use Rattle.rack.proofs.play.rack_play.Statement.{statement}

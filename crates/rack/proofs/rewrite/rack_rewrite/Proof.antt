@@ -2,7 +2,8 @@
 -- Assumes nothing.
 use mathlib.Core.Path.{_∙_}
 use denote.Ref.{now}
-use Rattle.rack.proofs.LoadCases.{sound-of, rewrite-refused, rewrite-refused-bytes, rewrite-number, rewrite-bytes}
+use Rattle.image.proofs.RoundTrips.{sound-of}
+use Rattle.rack.proofs.LoadCases.{rewrite-refused, rewrite-refused-bytes, rewrite-number, rewrite-bytes}
 use borrow.Author.Needs.{needs}
 use Rattle.rack.proofs.rewrite.rack_rewrite.Statement.{statement}
 use Rattle.rack.proofs.rewrite.rack_rewrite.Tie as tie

@@ -5,13 +5,14 @@ use mathlib.Core.List.{_++_}
 use native.Mathlib.Nat.{zero-add}
 use native.Mathlib.Omega.{arith}
 use denote.Ref.{now}
+use Rattle.image.proofs.RoundTrips.{sound-of}
 use lib.ListN.{length}
 use Rattle.lines.specs.Lines.{Put}
 use Rattle.lines.proofs.PutLaws.{put-more, put-length}
 use Rattle.executive.specs.States.{tasksOf}
 use Rattle.rack.specs.Boundary.{headBytes, entriesBytes}
 use Rattle.rack.proofs.ByteParts.{head-long}
-use Rattle.rack.proofs.LoadCases.{sound-of, judged-short, judged-refused, judged-accepted, judged-put}
+use Rattle.rack.proofs.LoadCases.{judged-short, judged-refused, judged-accepted, judged-put}
 use borrow.Author.Needs.{needs}
 use Rattle.rack.proofs.verdict.rack_judge.Statement.{statement}
 use Rattle.rack.proofs.verdict.rack_judge.Tie as tie
