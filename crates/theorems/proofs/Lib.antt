@@ -3,6 +3,7 @@ pub mod CaseLaws
 pub mod Exactly
 pub mod FirstLaws
 pub mod Numbers
+pub mod PlayedCases
 pub mod Replay
 pub mod Tightness
 pub mod Undone
