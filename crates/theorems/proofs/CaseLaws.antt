@@ -34,7 +34,7 @@ use Rattle.judging.specs.Demands.{sumTo, ceil, star, counted, demandDP2, demand
 use Rattle.judging.specs.Verdicts.{orElse, firstBelow, found, queuesOf, periodsOf, loadsOf, nameOf, named, verdictOf}
 use Rattle.judging.proofs.ColumnLaws.{queues-length, periods-length}
 use Rattle.judging.proofs.FixedLaws.{forced, forcedList, forced-list, gcdForced, lcmForced, longFrom, fixedFrom, fixedUpTo, fixedDP2, fixedFP, fixedOutcome, fixed-outcome}
-use Rattle.theorems.specs.Cases.{Case, judged, played, undone, Holds, task, cases, All}
+use Rattle.theorems.specs.Cases.{Case, judged, played, undone, Holds, cases, All}
 use Rattle.theorems.proofs.PlayedCases.{p10-p12}
 
 -- two lists of numbers are equal

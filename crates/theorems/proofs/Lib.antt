@@ -5,5 +5,6 @@ pub mod FirstLaws
 pub mod Numbers
 pub mod PlayedCases
 pub mod Replay
+pub mod ShutOut
 pub mod Tightness
 pub mod Undone

@@ -1,6 +1,6 @@
--- The rows of the table of cases that are lists of calls hold: each by computation.
+-- P10 to P12, the rows of the table of cases that are lists of calls, hold: each by computation, from the bytes of the image on.
 -- Assumes nothing.
-use mathlib.Core.Path.{_≡_, refl}
+use mathlib.Core.Path.{refl}
 use lib.ListN.{drop}
 use Rattle.table.specs.Entries.{spanOf}
 use Rattle.table.specs.Refusals.{firstOf, answered}

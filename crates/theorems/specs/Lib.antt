@@ -2,6 +2,7 @@
 pub mod Cases
 pub mod Conditions
 pub mod Histories
+pub mod StandIns
 pub mod Tight
 pub mod Undo
 pub mod When
