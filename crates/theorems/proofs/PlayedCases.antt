@@ -2,7 +2,6 @@
 -- Assumes nothing.
 use mathlib.Core.Path.{refl}
 use lib.ListN.{drop}
-use Rattle.table.specs.Entries.{spanOf}
 use Rattle.table.specs.Refusals.{firstOf, answered}
 use Rattle.table.specs.Sums.{any}
 use Rattle.table.specs.Places.{firstPlace, taskPlace, semPlace}
@@ -60,5 +59,5 @@ use Rattle.theorems.specs.Histories.{called, after}
 use Rattle.theorems.specs.Cases.{loaded, runs, stepsOf, cases, All}
 
 pub p10-p12 : All (drop 8 cases)
-unfolding spanOf firstOf answered any firstPlace taskPlace semPlace within taskInRange semInRange taskBefore semBefore used tasksOf semsOf taskAt semAt waitsFor heldBy holderOf waitsOn shownDeadline ownOf better foundAnd passes reaches preferred bestAmong foundOr standingOf isIdle isReady readyAt waiterAt runningOf heirOf numberAt withTask withSem withLast nowDoes nowHeld moved isNone busy untimely noSemWait holdsIt closesRing notHeld releaseAt takeOrWait acquireAt handOver giveAt releaseOf withdrawOf acquireOf giveOf valueOf bytesOf readAt allAre taskIn semIn unlessOutOfRange taskDecoded semDecoded decoded encodeTask encodeSem freshTable taken startFront frontAfter usedAfter refusedAs orderBroken numberTwice tooMany refusalOf stateOf acceptedLoad finishedLoad loadFrom recordsIn badLength loadOf flat encoded called after loaded runs stepsOf cases
+unfolding firstOf answered any firstPlace taskPlace semPlace within taskInRange semInRange taskBefore semBefore used tasksOf semsOf taskAt semAt waitsFor heldBy holderOf waitsOn shownDeadline ownOf better foundAnd passes reaches preferred bestAmong foundOr standingOf isIdle isReady readyAt waiterAt runningOf heirOf numberAt withTask withSem withLast nowDoes nowHeld moved isNone busy untimely noSemWait holdsIt closesRing notHeld releaseAt takeOrWait acquireAt handOver giveAt releaseOf withdrawOf acquireOf giveOf valueOf bytesOf readAt allAre taskIn semIn unlessOutOfRange taskDecoded semDecoded decoded encodeTask encodeSem freshTable taken startFront frontAfter usedAfter refusedAs orderBroken numberTwice tooMany refusalOf stateOf acceptedLoad finishedLoad loadFrom recordsIn badLength loadOf flat encoded called after loaded runs stepsOf cases
 p10-p12 = (refl, ((refl, refl), (refl, tt)))

@@ -14,7 +14,7 @@ use native.Mathlib.Omega.{arith}
 use lib.ListN.{getD}
 use Rattle.table.specs.declared.Task.{Task}
 use Rattle.table.specs.declared.Found.the-variants.{At}
-use Rattle.table.specs.Entries.{noFigures, spanOf}
+use Rattle.table.specs.Entries.{noFigures}
 use Rattle.table.specs.Refusals.{firstOf, answered}
 use Rattle.table.specs.Sums.{any}
 use Rattle.table.specs.Places.{firstPlace, taskPlace, semPlace}
@@ -142,7 +142,7 @@ computed : (runs (loaded three) ≡ 0)
     × ((taskAt (tasksOf now) 2) .number ≡ 11)
     × (standingAfter three waited 11 ≡ fp 1)
     × (standingAfter three (waited ++ (acquire 1 ∷ [])) 11 ≡ fp 0)
-unfolding spanOf firstOf answered any firstPlace taskPlace semPlace within taskInRange semInRange taskBefore semBefore used tasksOf semsOf taskAt semAt waitsFor heldBy holderOf waitsOn shownDeadline ownOf better foundAnd passes reaches preferred bestAmong foundOr standingOf isIdle isReady readyAt runningOf numberAt withTask withSem withLast nowDoes nowHeld moved isNone busy untimely closesRing releaseAt takeOrWait acquireAt releaseOf acquireOf valueOf bytesOf readAt allAre taskIn semIn unlessOutOfRange taskDecoded semDecoded decoded encodeTask encodeSem freshTable taken startFront frontAfter usedAfter refusedAs orderBroken numberTwice tooMany refusalOf stateOf acceptedLoad finishedLoad loadFrom recordsIn badLength loadOf flat encoded called after loaded runs shown standsOf standingAfter
+unfolding firstOf answered any firstPlace taskPlace semPlace within taskInRange semInRange taskBefore semBefore used tasksOf semsOf taskAt semAt waitsFor heldBy holderOf waitsOn shownDeadline ownOf better foundAnd passes reaches preferred bestAmong foundOr standingOf isIdle isReady readyAt runningOf numberAt withTask withSem withLast nowDoes nowHeld moved isNone busy untimely closesRing releaseAt takeOrWait acquireAt releaseOf acquireOf valueOf bytesOf readAt allAre taskIn semIn unlessOutOfRange taskDecoded semDecoded decoded encodeTask encodeSem freshTable taken startFront frontAfter usedAfter refusedAs orderBroken numberTwice tooMany refusalOf stateOf acceptedLoad finishedLoad loadFrom recordsIn badLength loadOf flat encoded called after loaded runs shown standsOf standingAfter
 computed = (refl, refl, refl, refl, refl, refl, refl)
 
 pub state-moves : NeverMoves called → ⊥
