@@ -1,11 +1,12 @@
--- Every row of the table of cases holds: each is decided by computation, and the decision is proved right once, for all rows.
+-- Every row of the table of cases holds. A row with a verdict is decided by computation, and the decision is proved right once, for all of them.
 -- Assumes nothing.
-use Prim.Native.Nat.{ℕ}
+use Prim.Native.Nat.{ℕ, zero, suc}
 use mathlib.Core.Path.{_≡_, refl, sym, ap, _∙_}
 use mathlib.Core.Bool.{Bool, true, false, _&&_}
 use mathlib.Core.List.{List, [], _∷_, map}
 use native.Mathlib.Omega.{arith}
 use lib.Dec.{eqb, ltb}
+use lib.ListN.{take, drop}
 use borrow.Author.Tests.{eqb-true, ltb-true}
 use Rattle.table.specs.declared.Board.{Board}
 use Rattle.table.specs.declared.Task.{Task}
@@ -33,7 +34,8 @@ use Rattle.judging.specs.Demands.{sumTo, ceil, star, counted, demandDP2, demand
 use Rattle.judging.specs.Verdicts.{orElse, firstBelow, found, queuesOf, periodsOf, loadsOf, nameOf, named, verdictOf}
 use Rattle.judging.proofs.ColumnLaws.{queues-length, periods-length}
 use Rattle.judging.proofs.FixedLaws.{forced, forcedList, forced-list, gcdForced, lcmForced, longFrom, fixedFrom, fixedUpTo, fixedDP2, fixedFP, fixedOutcome, fixed-outcome}
-use Rattle.theorems.specs.Cases.{Case, judged, Holds, task, cases, All}
+use Rattle.theorems.specs.Cases.{Case, judged, played, undone, Holds, cases, All}
+use Rattle.theorems.proofs.PlayedCases.{p10-p12}
 
 -- two lists of numbers are equal
 same : List ℕ → List ℕ → Bool
@@ -60,12 +62,14 @@ fixedVerdict tasks board =
     forcedList (periodsOf tasks)
     (λ periods. forcedList (loadsOf tasks board) (λ loads. named tasks (fixedOutcome queues periods loads))))
 
--- a row is right
+-- a row with a verdict is right
 right : Case → Bool
 right (judged tasks board charges number task) =
     every (λ p. ltb 0 p) (periodsOf tasks)
     && same (map (chargeOf tasks board) tasks) charges
     && (eqb (fixedVerdict tasks board .number) number && eqb (fixedVerdict tasks board .task) task)
+right (played table steps) = false
+right (undone table steps others) = false
 
 fixed-verdict : (tasks : List Task) (board : Board) → every (λ p. ltb 0 p) (periodsOf tasks) ≡ true → fixedVerdict tasks board ≡ verdictOf tasks board
 unfolding fixedVerdict verdictOf
@@ -96,13 +100,24 @@ right-holds (judged tasks board charges number task) h =
       same-true (map (chargeOf tasks board) tasks) charges (both-right p c pc),
       sym (fixed-verdict tasks board (both-left p c pc)) ∙ (λ i. record { number = number-is i; task = task-is i }),
     )
+right-holds (played table steps) h = let z : _≡_ {A = ℕ} 0 1 = cc in absurd (omega arith)
+right-holds (undone table steps others) h = let z : _≡_ {A = ℕ} 0 1 = cc in absurd (omega arith)
 
 all-right : (l : List Case) → every right l ≡ true → All l
 unfolding every
 all-right [] h = tt
 all-right (c ∷ rest) h = (right-holds c (both-left (right c) (every right rest) h), all-right rest (both-right (right c) (every right rest) h))
 
--- P1 to P9
-pub cases-hold : All cases
+-- the first rows, and the rest
+all-parts : (n : ℕ) (l : List Case) → All (take n l) → All (drop n l) → All l
+all-parts zero l a b = b
+all-parts (suc n) [] a b = tt
+all-parts (suc n) (c ∷ rest) a b = (a .0, all-parts n rest (a .1) b)
+
+p1-p9 : All (take 8 cases)
 unfolding cases right same every fixedVerdict forced forcedList gcdForced lcmForced longFrom fixedFrom fixedUpTo fixedDP2 fixedFP fixedOutcome tasksIn countsOf choiceDP choiceFP sumDP1 sumDP2 sumFP sumBy chargeBy loadBy chargeOf loadOf plus fractions aboveOne overFull sumTo ceil star counted demandDP2 demandFP orElse firstBelow found queuesOf periodsOf loadsOf nameOf named builtIn firstOf sumOf countOf
-cases-hold = all-right cases refl
+p1-p9 = all-right (take 8 cases) refl
+
+-- P1 to P12
+pub cases-hold : All cases
+cases-hold = all-parts 8 cases p1-p9 p10-p12

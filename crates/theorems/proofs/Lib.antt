@@ -3,7 +3,9 @@ pub mod CaseLaws
 pub mod Exactly
 pub mod FirstLaws
 pub mod Numbers
+pub mod PlayedCases
 pub mod Replay
 pub mod Shown
+pub mod ShutOut
 pub mod Tightness
 pub mod Undone

@@ -1,23 +1,60 @@
 -- The cases that document 01 marks P ("Bench figures"), in one table, with one statement over all rows.
 use Prim.Native.Nat.{ℕ}
 use mathlib.Core.Path.{_≡_}
+use mathlib.Core.Bool.{false}
 use mathlib.Core.List.{List, [], _∷_, map}
 use lib.ListN.{replicate}
 use Rattle.table.specs.declared.Board.{Board}
 use Rattle.table.specs.declared.Task.{Task}
+use Rattle.table.specs.declared.Sem.{Sem}
 use Rattle.table.specs.declared.Status.the-variants.{Idle}
+use Rattle.table.specs.declared.Holder.the-variants.{Free}
 use Rattle.table.specs.Entries.{builtIn, noFigures}
+use Rattle.executive.specs.declared.state.State.{State}
+use Rattle.executive.specs.States.{tasksOf, semsOf}
+use Rattle.executive.specs.Standing.{runningOf, numberAt}
+use Rattle.image.specs.Loading.{Table, loadOf}
+use Rattle.image.specs.Writing.{encoded}
 use Rattle.charges.specs.Charges.{chargeOf}
 use Rattle.judging.specs.Verdicts.{verdictOf}
+use Rattle.theorems.specs.Histories.{Call, release, withdraw, acquire, give, called, after}
 
--- a row of the table: tasks and figures; the charge of each task, the verdict's number and the task that it names
+-- a call, the number that it gets, and the number of the task that runs then
+abbrev pub Step : Type 0
+Step = Call × ℕ × ℕ
+
+-- a row of the table
 pub data Case : Type 0 where
+  -- tasks and figures; the charge of each task, the verdict's number and the task that it names
   judged : (tasks : List Task) (board : Board) (charges : List ℕ) (number task : ℕ) → Case
+  -- a table, and calls from its loading on
+  played : (table : Table) (steps : List Step) → Case
+  -- the same, and other calls that lead to the same state
+  undone : (table : Table) (steps : List Step) (others : List Call) → Case
+
+-- the state that loading hands back for the image of a table. A refused one would hand back the empty state, on which no task is known
+unfoldable pub loaded : Table → State
+loaded table = (loadOf (encoded table)) .state
+
+-- 01, "Dispatch": the answer is the number of the task that runs, or 0
+unfoldable pub runs : State → ℕ
+runs s = numberAt (tasksOf s) (runningOf (tasksOf s) (semsOf s))
+
+-- calls made in turn from a state on, each with the number that it gets and the number of the task that runs then
+unfoldable pub stepsOf : State → List Call → List Step
+stepsOf s [] = []
+stepsOf s (c ∷ rest) = (c, (called s c) .answer, runs ((called s c) .state)) ∷ stepsOf ((called s c) .state) rest
+
+abbrev pub callsOf : List Step → List Call
+callsOf steps = map (λ step. step .0) steps
 
 -- what a row says
 abbrev pub Holds : Case → Type 0
 Holds (judged tasks board charges number task) =
     (map (chargeOf tasks board) tasks ≡ charges) × (verdictOf tasks board ≡ record { number = number; task = task })
+Holds (played table steps) = stepsOf (loaded table) (callsOf steps) ≡ steps
+Holds (undone table steps others) =
+    (stepsOf (loaded table) (callsOf steps) ≡ steps) × (after (loaded table) (callsOf steps) ≡ after (loaded table) others)
 
 -- a task as it is loaded
 abbrev pub task : ℕ → ℕ → ℕ → ℕ → Task
@@ -38,6 +75,20 @@ workload four fifth rest =
     ∷ task rest 10 13000000 50000
     ∷ []
 
+-- a semaphore as it is loaded
+abbrev pub sem : ℕ → Sem
+sem number = record { number = number; holder = Free }
+
+-- FP tasks 7, 9, 11 by rising period, and these semaphores
+abbrev pub threeFP : List Sem → Table
+threeFP sems =
+    record {
+      tasks = task 3 7 1000 1 ∷ task 3 9 2000 1 ∷ task 3 11 3000 1 ∷ [];
+      sems = sems;
+      board = builtIn;
+      present = false;
+    }
+
 unfoldable pub cases : List Case
 cases =
     -- P1. Two DP1 tasks, period 2,000, cost 1,000 each, all board figures zero: 0
@@ -56,6 +107,34 @@ cases =
     ∷ judged (workload 3 3 3) builtIn (replicate 10 1245) 14 4
     -- P9. First four in DP1, fifth DP2, rest FP, figures zero: 13 at task 5
     ∷ judged (workload 1 2 3) noFigures (replicate 10 0) 13 5
+    -- P10. FP tasks 7, 9, 11 by rising period. Release 11 at 0; it acquires semaphore 1. Release 7 at 5; it acquires 1: 90. Release 9 at 6: 11
+    -- runs. 11 gives 1: 7 runs
+    ∷ played (threeFP (sem 1 ∷ []))
+    ((release 11 0, 0, 11)
+    ∷ (acquire 1, 0, 11)
+    ∷ (release 7 5, 0, 7)
+    ∷ (acquire 1, 90, 11)
+    ∷ (release 9 6, 0, 11)
+    ∷ (give 1, 0, 7)
+    ∷ [])
+    -- P11. As P10 up to 90, then withdraw 7: the state as if 7 had never asked
+    ∷ undone (threeFP (sem 1 ∷ []))
+    ((release 11 0, 0, 11)
+    ∷ (acquire 1, 0, 11)
+    ∷ (release 7 5, 0, 7)
+    ∷ (acquire 1, 90, 11)
+    ∷ (withdraw 7, 0, 7)
+    ∷ [])
+    (release 11 0 ∷ acquire 1 ∷ release 7 5 ∷ [])
+    -- P12. 11 holds 1, 7 holds 2 and waits for 1; 11 acquires 2: 28
+    ∷ played (threeFP (sem 1 ∷ sem 2 ∷ []))
+    ((release 11 0, 0, 11)
+    ∷ (acquire 1, 0, 11)
+    ∷ (release 7 5, 0, 7)
+    ∷ (acquire 2, 0, 7)
+    ∷ (acquire 1, 90, 11)
+    ∷ (acquire 2, 28, 11)
+    ∷ [])
     ∷ []
 
 -- every row holds
