@@ -16,7 +16,13 @@ use Rattle.executive.specs.Sound.{Sound}
 use Rattle.executive.specs.Standing.{standingOf, runningOf}
 use Rattle.executive.specs.Reaches.{IsStanding}
 use Rattle.executive.proofs.SoundCalls.{
-  release-sound, signal-sound, withdraw-sound, acquire-sound, give-sound, complete-sound, block-sound
+  release-sound,
+  signal-sound,
+  withdraw-sound,
+  acquire-sound,
+  give-sound,
+  complete-sound,
+  block-sound,
 }
 use Rattle.executive.proofs.DispatchLaws as Dispatch
 use Rattle.judging.proofs.PassLaws as Pass
@@ -26,7 +32,17 @@ use Rattle.image.proofs.RoundTrips as Trips
 use Rattle.theorems.specs.Comes.{Comes, loaded, from-call}
 use Rattle.theorems.specs.Demands
 use Rattle.theorems.specs.Histories.{
-  Call, release, signal, withdraw, acquire, give, complete, block, called, after, acceptedOf
+  Call,
+  release,
+  signal,
+  withdraw,
+  acquire,
+  give,
+  complete,
+  block,
+  called,
+  after,
+  acceptedOf,
 }
 use Rattle.theorems.specs.When.{FirstThat}
 use Rattle.theorems.proofs.Exactly as Exactly
@@ -76,9 +92,10 @@ refused-write s buffer h = answered-refused (writeNumber s (length buffer)) (λ 
 bad-says : (s : State) (bytes : ℕ)
     → (badBuffer s bytes ≡ true) ↔ ((bytes % 32 ≢ 0) ⊎ ((4096 < bytes) ⊎ (bytes < length (encoded (tableOf s)))))
 unfolding badBuffer badLength
-bad-says s bytes =
-    ( go (eqb (bytes % 32) 0) (ltb 4096 bytes) (ltb bytes (length (encoded (tableOf s)))) refl refl refl
-    , λ w. back w)
+bad-says s bytes = (
+  go (eqb (bytes % 32) 0) (ltb 4096 bytes) (ltb bytes (length (encoded (tableOf s)))) refl refl refl,
+  λ w. back w,
+)
   where
     go : (a b c : Bool) → eqb (bytes % 32) 0 ≡ a → ltb 4096 bytes ≡ b → ltb bytes (length (encoded (tableOf s))) ≡ c
         → ((not a || b) || c) ≡ true → (bytes % 32 ≢ 0) ⊎ ((4096 < bytes) ⊎ (bytes < length (encoded (tableOf s))))
@@ -86,6 +103,7 @@ bad-says s bytes =
     go true true c ea eb ec h = inr (inl (ltb-true 4096 bytes eb))
     go true false true ea eb ec h = inr (inr (ltb-true bytes (length (encoded (tableOf s))) ec))
     go true false false ea eb ec h = let z : _≡_ {A = ℕ} 0 1 = cc in absurd (omega arith)
+
     back : (bytes % 32 ≢ 0) ⊎ ((4096 < bytes) ⊎ (bytes < length (encoded (tableOf s))))
         → ((not (eqb (bytes % 32) 0) || ltb 4096 bytes) || ltb bytes (length (encoded (tableOf s)))) ≡ true
     back (inl h) = rw (ne-eqb (bytes % 32) 0 h)
@@ -119,9 +137,10 @@ runs-best s h i e = Dispatch.runs-best s (comes-sound s h) i e
 
 pub runs-none : Demands.RunsNone
 runs-none s h =
-    let sound = comes-sound s h in
-    ( λ e. Dispatch.runs-none s sound (Dispatch.runs-zero s sound e)
-    , λ w. Dispatch.zero-runs s sound (Dispatch.none-runs s sound w))
+    let sound = comes-sound s h in (
+      λ e. Dispatch.runs-none s sound (Dispatch.runs-zero s sound e),
+      λ w. Dispatch.zero-runs s sound (Dispatch.none-runs s sound w),
+    )
 
 pub replayed : Demands.Replayed
 replayed s calls = (Replay.replay-state s calls, Replay.replay-answers s calls)

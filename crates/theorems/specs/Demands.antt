@@ -23,7 +23,17 @@ use Rattle.image.specs.Accepted.{Accepted, asLoaded}
 use Rattle.theorems.specs.Comes.{Comes}
 use Rattle.theorems.specs.Conditions.{conditionsOf}
 use Rattle.theorems.specs.Histories.{
-  Call, acquire, withdraw, called, after, answersTo, isAccepted, acceptedOf, acceptedNumbers, numbersOf, Among
+  Call,
+  acquire,
+  withdraw,
+  called,
+  after,
+  answersTo,
+  isAccepted,
+  acceptedOf,
+  acceptedNumbers,
+  numbersOf,
+  Among,
 }
 use Rattle.theorems.specs.Undo.{Pulses}
 use Rattle.theorems.specs.When.{FirstThat}
@@ -91,7 +101,7 @@ RunsBest =
     (s : State) → Comes s → (i : ℕ) → runningOf (tasksOf s) (semsOf s) ≡ At i
     → (i < s .n) × (readyAt (tasksOf s) i ≡ true)
     × ((j : ℕ) → j < s .n → readyAt (tasksOf s) j ≡ true
-      → better (standingOf (tasksOf s) (semsOf s) j) (standingOf (tasksOf s) (semsOf s) i) ≡ false)
+    → better (standingOf (tasksOf s) (semsOf s) j) (standingOf (tasksOf s) (semsOf s) i) ≡ false)
 
 -- the answer is 0 exactly if none is ready
 abbrev pub RunsNone : Type 0
@@ -124,5 +134,5 @@ abbrev pub Undone : Type 0
 Undone =
     (s : State) → Comes s → (sem : ℕ) → (called s (acquire sem)) .answer ≡ 90 → (calls : List Call) → Pulses calls
     → (called (after ((called s (acquire sem)) .state) calls) (withdraw (numberAt (tasksOf s) (runningOf (tasksOf s) (semsOf s))))
-      ≡ moved (after s calls) 0)
+    ≡ moved (after s calls) 0)
     × (answersTo ((called s (acquire sem)) .state) calls ≡ answersTo s calls)
