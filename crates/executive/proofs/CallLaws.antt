@@ -7,25 +7,27 @@ use mathlib.Core.Bool.{Bool, true, false, cond, _||_}
 use mathlib.Core.List.{List, [], _∷_}
 use native.Mathlib.Omega.{arith}
 use lib.Dec.{ltb, eqb}
-use lib.ListN.{getD}
+use lib.ListN.{length, getD}
 use lib.Seq.{getD-take}
 use borrow.Author.Tests.{eq-eqb, ne-eqb, eqb-true, eqb-false, ltb-false}
 use Rattle.table.specs.declared.Task.{Task}
+use Rattle.table.specs.declared.Sem.{Sem}
 use Rattle.table.specs.declared.Status.{Status}
 use Rattle.table.specs.declared.Found.{Found}
 use Rattle.table.specs.declared.Found.the-variants.{At, Nothing}
 use Rattle.table.specs.Entries.{blankTask, blankSem}
 use Rattle.table.specs.Refusals.{firstOf, answered}
 use Rattle.table.specs.Places.{taskPlace}
+use Rattle.table.proofs.SumLaws.{any-none}
 use Rattle.table.proofs.RefusalLaws.{answered-refused, answered-done, firstOf-here, firstOf-past}
 use Rattle.table.proofs.PlaceLaws.{Come, come-hit, come-miss, come-end}
 use Rattle.executive.specs.declared.state.State.{State}
 use Rattle.executive.specs.States.{tasksOf, semsOf}
-use Rattle.executive.specs.Waits.{taskAt, semAt}
+use Rattle.executive.specs.Waits.{taskAt, semAt, heldBy}
 use Rattle.executive.specs.Sound.{Sized}
 use Rattle.executive.specs.Standing.{foundAnd, foundOr}
 use Rattle.executive.specs.declared.calls.Moved.{Moved}
-use Rattle.executive.specs.Calls.{isNone, moved, withTask, untimely}
+use Rattle.executive.specs.Calls.{isNone, moved, withTask, untimely, holdsIt, stillHolds}
 
 -- a call that asks first whether something was found
 module _ {A : Type 0} (number : ℕ) (rest : ℕ → List (ℕ × Bool)) (refused : ℕ → A) (done : ℕ → A) where
@@ -148,3 +150,12 @@ release-timely false last time e = go (ltb time last) (ltb 1000000000000000 time
     go true q hp hq e = absurd (omega arith)
     go false true hp hq e = absurd (omega arith)
     go false false hp hq e = (ltb-false time last hp, ltb-false 1000000000000000 time hq)
+
+-- who holds nothing holds no semaphore that there is
+pub holds-none : (sems : List Sem) (i : ℕ) → stillHolds sems i ≡ false → (k : ℕ) → k < length sems → heldBy ((semAt sems k) .holder) ≡ At i → ⊥
+unfolding stillHolds holdsIt foundAnd semAt
+holds-none sems i none k h by =
+    let f : holdsIt i (semAt sems k) ≡ false = any-none (holdsIt i) sems none k h blankSem in
+    let t : holdsIt i (semAt sems k) ≡ true = ap (foundAnd (λ at. eqb at i)) by ∙ eq-eqb i i refl in
+    let z : _≡_ {A = ℕ} 0 1 = cc in
+    omega arith

@@ -19,6 +19,8 @@ use Rattle.executive.specs.Sound.{Sound}
 use Rattle.executive.specs.Standing.{Rank, ownOf, better, standingOf, readyAt, runningOf, numberAt}
 use Rattle.executive.specs.Reaches.{Reaches, IsStanding}
 use Rattle.executive.specs.Scan.{takenAt, takes}
+use Rattle.executive.specs.Calls.{stillHolds}
+use Rattle.executive.proofs.CallLaws.{holds-none}
 use Rattle.executive.proofs.RankLaws.{better-total, best-none, best-nothing}
 use Rattle.executive.proofs.ChainLaws.{Long, chained, chain, on-held, tasks-length, sems-length, reaches-true, true-reaches}
 use Rattle.executive.proofs.SoundLaws.{ranges}
@@ -63,6 +65,15 @@ module _ (s : State) (sound : Sound s) where
           waited : (j k : ℕ) → j < length (tasksOf s) → waitsOn (tasksOf s) (semsOf s) j ≡ At k → Reaches (tasksOf s) (semsOf s) i k → ⊥
           waited j k hj e (Reaches.here) = let l = tasks-length s sound in none j (omega arith) e
           waited j k hj e (Reaches.there {k = next} f r) = waited k next (on-held (tasksOf s) (semsOf s) (chained s sound) j k hj e .4) f r
+
+  -- and nobody waits on a task that holds no semaphore
+  pub holds-nothing : (i : ℕ) → i < s .n → stillHolds (semsOf s) i ≡ false → standingOf (tasksOf s) (semsOf s) i ≡ ownOf (tasksOf s) i
+  holds-nothing i h none =
+      nobody-waits i h
+      (λ j hj e.
+      let l = tasks-length s sound in
+      let o = on-held (tasksOf s) (semsOf s) (chained s sound) j i (omega arith) e in
+      holds-none (semsOf s) i none (o .0) (o .2) (o .3))
 
   -- a chain of waits ends, after no more waits than there are semaphores
   pub chains-end : (i : ℕ) → i < s .n → (d : ℕ) × Long (tasksOf s) (semsOf s) i d × (d ≤ s .m)

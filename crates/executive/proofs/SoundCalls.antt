@@ -17,9 +17,8 @@ use Rattle.table.specs.declared.Holder.{Holder}
 use Rattle.table.specs.declared.Holder.the-variants.{Free, By}
 use Rattle.table.specs.declared.Found.{Found}
 use Rattle.table.specs.declared.Found.the-variants.{At, Nothing}
-use Rattle.table.specs.Entries.{blankSem, spanOf, withStatus, withDeadline, withHolder}
+use Rattle.table.specs.Entries.{spanOf, withStatus, withDeadline, withHolder}
 use Rattle.table.specs.Places.{taskPlace, semPlace}
-use Rattle.table.proofs.SumLaws.{any-none}
 use Rattle.table.proofs.RefusalLaws.{firstOf-zero}
 use Rattle.executive.specs.declared.state.State.{State}
 use Rattle.executive.specs.declared.calls.Moved.{Moved}
@@ -27,8 +26,8 @@ use Rattle.executive.specs.States.{tasksOf, semsOf}
 use Rattle.executive.specs.Waits.{taskAt, semAt, waitsFor, heldBy, Ends}
 use Rattle.executive.specs.Sound.{Sound}
 use Rattle.executive.specs.Standing.{foundAnd, foundOr, isReady, readyAt, waiterAt, reaches, runningOf, heirOf, standingOf}
-use Rattle.executive.specs.Calls.{withTask, withSem, withLast, nowDoes, nowHeld, moved, isNone, busy, untimely, noEventWait, noSemWait, holdsIt, stillHolds, closesRing, notHeld, releaseAt, takeOrWait, acquireAt, handOver, giveAt, completeAt, releaseOf, signalOf, withdrawOf, acquireOf, giveOf, completeOf, blockOf}
-use Rattle.executive.proofs.CallLaws.{call-keeps, release-timely}
+use Rattle.executive.specs.Calls.{withTask, withSem, withLast, nowDoes, nowHeld, moved, isNone, busy, untimely, noEventWait, noSemWait, stillHolds, closesRing, notHeld, releaseAt, takeOrWait, acquireAt, handOver, giveAt, completeAt, releaseOf, signalOf, withdrawOf, acquireOf, giveOf, completeOf, blockOf}
+use Rattle.executive.proofs.CallLaws.{call-keeps, release-timely, holds-none}
 use Rattle.executive.proofs.RankLaws.{best-none}
 use Rattle.executive.proofs.ChainLaws.{chained, tasks-length, sems-length, waits-held, waits-none, reaches-true}
 use Rattle.executive.proofs.RunLaws.{task-below, sem-below, runs-is, runs-below, heir-below}
@@ -127,16 +126,9 @@ complete-sound s sound =
     (eqb-false 26 0 refl) (λ k. sound)
     (λ i e f.
     calm-kept s sound i (runs-below s sound i e) ((taskAt (tasksOf s) i) .deadline) Idle (unfold waitsFor in refl)
-    (λ k hk by. absurd (free i k hk by (firstOf-zero 27 (stillHolds (semsOf s) i) [] (eqb-false 27 0 refl) f .0))))
-  where
-    free : (i k : ℕ) → k < s .m → heldBy ((semAt (semsOf s) k) .holder) ≡ At i → stillHolds (semsOf s) i ≡ false → ⊥
-    free i k hk by none =
-        unfold stillHolds holdsIt foundAnd semAt in
-        let l = sems-length s sound in
-        let f : holdsIt i (semAt (semsOf s) k) ≡ false = any-none (holdsIt i) (semsOf s) none k (omega arith) blankSem in
-        let t : holdsIt i (semAt (semsOf s) k) ≡ true = ap (foundAnd (λ at. eqb at i)) by ∙ eq-eqb i i refl in
-        let z : _≡_ {A = ℕ} 0 1 = cc in
-        omega arith
+    (λ k hk by.
+    let l = sems-length s sound in
+    absurd (holds-none (semsOf s) i (firstOf-zero 27 (stillHolds (semsOf s) i) [] (eqb-false 27 0 refl) f .0) k (omega arith) by)))
 
 -- what the running task may do to a semaphore that there is
 module _ (s : State) (sound : Sound s) (i : ℕ) (run : runningOf (tasksOf s) (semsOf s) ≡ At i) (k : ℕ) (h : k < s .m) where

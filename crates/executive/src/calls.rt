@@ -6,15 +6,12 @@ ghost use mathlib.Core.List.{[], _∷_};
 ghost use Prim.Native.Nat.{_+_, _≤_};
 ghost use Rattle.table.specs.Refusals.{firstOf};
 ghost use Rattle.table.specs.Entries.{spanOf, withStatus, withDeadline};
-ghost use Rattle.executive.specs.States.{semsOf};
 ghost use Rattle.executive.specs.Waits.{waitsFor};
 ghost use Rattle.executive.specs.Sound.{Sized, Sound};
 ghost use Rattle.executive.specs.Standing.{isIdle, isEvent};
 ghost use Rattle.executive.specs.Calls.{
   untimely,
   isNone,
-  holdsIt,
-  stillHolds,
   releaseOf,
   signalOf,
   withdrawOf,
@@ -29,7 +26,6 @@ use crate::standing::Goal;
 use crate::state::State;
 use table::Found;
 use table::Holder;
-use table::Sem;
 use table::Status;
 use table::Task;
 use table::limits;
@@ -118,17 +114,6 @@ fn withdraw_refusal(status: Status) -> u8
         return numbers::NO_SEM_WAIT;
     }
     numbers::DONE
-}
-
-// Whether the task at a position holds the semaphore.
-fn holds_it(i: usize, entry: Sem) -> bool
-    ensures { λ r. ⌜ r ≡ holdsIt i entry ⌝ }
-{
-    let holder = entry.holder;
-    let Holder::By(at) = holder else {
-        return false;
-    };
-    at as usize == i
 }
 
 impl State {
@@ -230,22 +215,6 @@ impl State {
         }
     }
 
-    // Whether the task at a position holds a semaphore.
-    fn holds(self, i: usize) -> bool
-        requires { ⌜ Sized self ⌝ }
-        ensures { λ r. ⌜ r ≡ stillHolds (semsOf self) i ⌝ }
-    {
-        let m = self.m;
-        let mut k: usize = 0;
-        while k < m {
-            if holds_it(i, self.sems[k]) {
-                return true;
-            }
-            k += 1;
-        }
-        false
-    }
-
     // The running task becomes idle.
     pub fn complete(mut self) -> Moved
         requires { ⌜ Sound self ⌝ }
@@ -258,7 +227,7 @@ impl State {
                 answer: numbers::NOBODY_RUNS,
             };
         };
-        if self.holds(i) {
+        if standing::holds(self.sems, self.m, i) {
             return Moved {
                 state: self,
                 answer: numbers::STILL_HOLDS,
@@ -355,7 +324,7 @@ impl State {
             };
         };
         let entry = self.sems[k];
-        if !holds_it(i, entry) {
+        if !standing::holds_it(i, entry) {
             return Moved {
                 state: self,
                 answer: numbers::NOT_HELD,

@@ -9,10 +9,12 @@ ghost use Rattle.executive.specs.Waits.{waitsFor};
 ghost use Rattle.executive.specs.Standing.{foundAnd, isReady, runningOf, numberAt, shownDeadline};
 ghost use Rattle.executive.specs.Scan.{takes, semCode, holderLeads, Linked, walked, followed, ledTo};
 ghost use Rattle.executive.specs.Scan.{folded, scanOf, metFound};
-ghost use Rattle.executive.specs.Calls.{standsOf};
+ghost use lib.ListN.{length, take};
+ghost use Rattle.executive.specs.Calls.{holdsIt, stillHolds, shown, standsOf};
 use crate::state::State;
 use table::Found;
 use table::Holder;
+use table::Sem;
 use table::Status;
 use table::Task;
 use table::numbers;
@@ -136,6 +138,32 @@ fn led_to(link: [u8; 16], goal: Goal, status: Status, place: u8) -> u8
     }
 }
 
+// Whether the task at a position holds the semaphore.
+pub(crate) fn holds_it(i: usize, entry: Sem) -> bool
+    ensures { λ r. ⌜ r ≡ holdsIt i entry ⌝ }
+{
+    let holder = entry.holder;
+    let Holder::By(at) = holder else {
+        return false;
+    };
+    at as usize == i
+}
+
+// Whether the task at a position holds one of the first m semaphores. It takes the entries alone: a state costs a copy.
+pub(crate) fn holds(sems: [Sem; 16], m: usize, i: usize) -> bool
+    requires { ⌜ (m ≤ 16) × (m ≤ length sems) ⌝ }
+    ensures { λ r. ⌜ r ≡ stillHolds (take m sems) i ⌝ }
+{
+    let mut k: usize = 0;
+    while k < m {
+        if holds_it(i, sems[k]) {
+            return true;
+        }
+        k += 1;
+    }
+    false
+}
+
 fn deadline_shown(t: Task) -> u64
     ensures { λ r. ⌜ r ≡ shownDeadline t ⌝ }
 {
@@ -143,6 +171,18 @@ fn deadline_shown(t: Task) -> u64
         return 0;
     }
     t.deadline
+}
+
+// The own standing of the task at a position.
+fn own_standing(t: Task, position: u8) -> Stands
+    ensures { λ r. ⌜ r ≡ shown (record { queue = t .queue; deadline = shownDeadline t; position = position }) ⌝ }
+{
+    Stands {
+        number: numbers::DONE,
+        queue: t.queue,
+        deadline: deadline_shown(t),
+        position,
+    }
 }
 
 // The best so far with one task more. Tasks come by rising position, so that the earlier one stays where queue and
@@ -264,14 +304,12 @@ impl State {
                 position: 0,
             };
         };
+        // Nobody can wait on a task that holds nothing.
+        if !holds(self.sems, self.m, i) {
+            return own_standing(self.tasks[i], i as u8);
+        }
         let best = self.scan(Goal::Is(i as u8));
         let at = best.position as usize;
-        let t = self.tasks[at];
-        Stands {
-            number: numbers::DONE,
-            queue: t.queue,
-            deadline: deadline_shown(t),
-            position: at as u8,
-        }
+        own_standing(self.tasks[at], at as u8)
     }
 }

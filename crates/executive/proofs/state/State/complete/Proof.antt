@@ -55,38 +55,38 @@ holds-requires : tie.Need-holds-requires
 holds-requires c κs = search needs
 
 returns-2 : tie.Need-returns-2
-unfolding completeOf moved
-returns-2 c = let s = c .before .before .before .before .before .before .before .args .t1 in
-    let i = c .before .before .before .runs .given .0 .0 in
+unfolding completeOf moved semsOf
+returns-2 c = let s = c .before .before .before .before .before .before .before .before .args .t1 in
+    let i = c .before .before .before .before .runs .given .0 .0 in
     sym
     (call-refused 26 (λ i. (27, stillHolds (semsOf s) i) ∷ []) (moved s) (λ i. moved (completeAt s i) 0) (runningOf (tasksOf s) (semsOf s)) i 27
-    (sym (run (c .before .before .before .before .before)) ∙ c .before .before .before .runs .given .1)
+    (sym (run (c .before .before .before .before .before .before)) ∙ c .before .before .before .before .runs .given .1)
     (firstOf-here 27 (stillHolds (semsOf s) i) [] (sym (c .before .holds .ensures) ∙ c .if1 .taken)) (eqb-false 27 0 refl))
 
 mul-t : tie.Need-mul-t
-mul-t c = omega (arith, fits (c .before .before))
+mul-t c = omega (arith, fits (c .before .before .before))
 
 element-copy-out-t : tie.Need-element-copy-out-t
-element-copy-out-t c = fits (c .before .before)
+element-copy-out-t c = fits (c .before .before .before)
 
 with-status-requires : tie.Need-with-status-requires
 with-status-requires c κs = search needs
 
 mul-t12 : tie.Need-mul-t12
-mul-t12 c = omega (arith, fits (c .before .before .before .before))
+mul-t12 c = omega (arith, fits (c .before .before .before .before .before))
 
 element-set-from-self : tie.Need-element-set-from-self
-element-set-from-self c = fits (c .before .before .before .before)
+element-set-from-self c = fits (c .before .before .before .before .before)
 
 returns-3 : tie.Need-returns-3
-unfolding completeOf moved completeAt nowDoes withTask
-returns-3 c = let s = c .before .before .before .before .before .before .before .before .before .args .t1 in
-    let i = c .before .before .before .before .before .runs .given .0 .0 in
+unfolding completeOf moved completeAt nowDoes withTask semsOf
+returns-3 c = let s = c .before .before .before .before .before .before .before .before .before .before .args .t1 in
+    let i = c .before .before .before .before .before .before .runs .given .0 .0 in
     ap (λ (t : Task). moved (withTask s i t) 0)
-    (c .with-status .ensures ∙ ap (λ (t : Task). withStatus t Idle) (sym (task-at s i (below (c .before .before .before .before)))))
+    (c .with-status .ensures ∙ ap (λ (t : Task). withStatus t Idle) (sym (task-at s i (below (c .before .before .before .before .before)))))
     ∙ sym
     (call-done 26 (λ i. (27, stillHolds (semsOf s) i) ∷ []) (moved s) (λ i. moved (completeAt s i) 0) (runningOf (tasksOf s) (semsOf s)) i
-    (sym (run (c .before .before .before .before .before .before .before)) ∙ c .before .before .before .before .before .runs .given .1)
+    (sym (run (c .before .before .before .before .before .before .before .before)) ∙ c .before .before .before .before .before .before .runs .given .1)
     (firstOf-past 27 (stillHolds (semsOf s) i) [] (sym (c .before .before .before .holds .ensures) ∙ c .before .before .if1 .left) ∙ firstOf-none))
 
 pub complete-spec : {M : Type 1} → statement M

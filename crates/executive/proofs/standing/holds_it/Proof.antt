@@ -1,11 +1,11 @@
--- `calls::holds_it` meets its contract: by who holds the semaphore.
+-- `standing::holds_it` meets its contract: by who holds the semaphore.
 -- Assumes nothing.
 use borrow.Author.Needs.{needs}
 use Rattle.executive.specs.Standing.{foundAnd}
 use Rattle.executive.specs.Waits.{heldBy}
 use Rattle.executive.specs.Calls.{holdsIt}
-use Rattle.executive.proofs.calls.holds_it.Statement.{statement}
-use Rattle.executive.proofs.calls.holds_it.Tie as tie
+use Rattle.executive.proofs.standing.holds_it.Statement.{statement}
+use Rattle.executive.proofs.standing.holds_it.Tie as tie
 
 enum-known-holder : tie.Need-enum-known-holder
 enum-known-holder c = search needs

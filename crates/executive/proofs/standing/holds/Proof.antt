@@ -1,25 +1,24 @@
--- `State::holds` meets its contract: none of the semaphores before k is held by the task.
+-- `standing::holds` meets its contract: none of the semaphores before k is held by the task.
 -- Assumes nothing.
 use Prim.Native.Nat.{ℕ, _-_, _≤_, _<_}
 use mathlib.Core.Path.{_≡_, sym, ap, _∙_}
 use mathlib.Core.Bool.{false}
 use native.Mathlib.Omega.{arith}
-use lib.ListN.{length, getD}
+use lib.ListN.{length, getD, take}
 use lib.Seq.{length-take-le, getD-take}
 use borrow.Author.Needs.{needs}
 use borrow.Author.Count.{below-more}
 use Rattle.table.specs.Entries.{blankSem}
 use Rattle.table.proofs.SumLaws.{any-some, none-any}
-use Rattle.executive.specs.States.{semsOf}
 use Rattle.executive.specs.Calls.{stillHolds, holdsIt}
-use Rattle.executive.proofs.state.State.holds.Statement.{statement}
-use Rattle.executive.proofs.state.State.holds.Tie as tie
+use Rattle.executive.proofs.standing.holds.Statement.{statement}
+use Rattle.executive.proofs.standing.holds.Tie as tie
 
 abbrev Inv-loop : tie.InvT-loop
-Inv-loop i self m k₀ k = (k ≤ m) × ((j : ℕ) → j < k → holdsIt i (getD (self .sems) j blankSem) ≡ false)
+Inv-loop m i sems k₀ k = (k ≤ m) × ((j : ℕ) → j < k → holdsIt i (getD sems j blankSem) ≡ false)
 
 abbrev μ-loop : tie.MeasureT-loop
-μ-loop i self m k₀ k = m - k
+μ-loop m i sems k₀ k = m - k
 
 loop-holds : tie.Need-loop-holds Inv-loop μ-loop
 loop-holds c = (omega arith, λ j h. absurd (omega arith))
@@ -27,20 +26,19 @@ loop-holds c = (omega arith, λ j h. absurd (omega arith))
 mul-holds-it : tie.Need-mul-holds-it Inv-loop μ-loop
 mul-holds-it c = search needs
 
-element-copy-out-holds-it : tie.Need-element-copy-out-holds-it Inv-loop μ-loop
-element-copy-out-holds-it c = search needs
+array-copy-out-holds-it : tie.Need-array-copy-out-holds-it Inv-loop μ-loop
+array-copy-out-holds-it c = search needs
 
 holds-it-requires : tie.Need-holds-it-requires Inv-loop μ-loop
 holds-it-requires c κs = tt
 
 returns : tie.Need-returns Inv-loop μ-loop
-unfolding stillHolds semsOf
-returns c = let b = c .before .before .before .before .before in
-    let s = b .args .t1 in
-    let l = c .before .before .before .before .loop in
+unfolding stillHolds
+returns c = let a = c .before .before .before .before .before .args in
+    let k = c .before .before .before .before .loop .k in
     sym
-    (any-some (holdsIt (b .args .i)) (semsOf s) (l .k) blankSem (rw (length-take-le (s .m) (s .sems) (omega arith)) (omega arith))
-    (ap (holdsIt (b .args .i)) (getD-take (s .m) (s .sems) (l .k) blankSem (omega arith)) ∙ sym (c .before .holds-it .ensures) ∙ c .if1 .taken))
+    (any-some (holdsIt (a .i)) (take (a .m) (a .t1)) k blankSem (rw (length-take-le (a .m) (a .t1) (omega arith)) (omega arith))
+    (ap (holdsIt (a .i)) (getD-take (a .m) (a .t1) k blankSem (omega arith)) ∙ sym (c .before .holds-it .ensures) ∙ c .if1 .taken))
 
 add-k : tie.Need-add-k Inv-loop μ-loop
 add-k c = search needs
@@ -52,14 +50,13 @@ loop-again : tie.Need-loop-again Inv-loop μ-loop
 loop-again c = (omega arith, below-more _ _ (c .before .before .before .before .loop .inv .1) (sym (c .before .holds-it .ensures) ∙ c .if1 .left))
 
 returns-2 : tie.Need-returns-2 Inv-loop μ-loop
-unfolding stillHolds semsOf
-returns-2 c = let b = c .before .before in
-    let s = b .args .t1 in
+unfolding stillHolds
+returns-2 c = let a = c .before .before .args in
     let l = c .before .loop in
-    let long : length (semsOf s) ≡ s .m = length-take-le (s .m) (s .sems) (omega arith) in
+    let long : length (take (a .m) (a .t1)) ≡ a .m = length-take-le (a .m) (a .t1) (omega arith) in
     sym
-    (none-any (holdsIt (b .args .i)) (semsOf s) blankSem
-    (λ j h. ap (holdsIt (b .args .i)) (getD-take (s .m) (s .sems) j blankSem (omega arith)) ∙ l .inv .1 j (omega arith)))
+    (none-any (holdsIt (a .i)) (take (a .m) (a .t1)) blankSem
+    (λ j h. ap (holdsIt (a .i)) (getD-take (a .m) (a .t1) j blankSem (omega arith)) ∙ l .inv .1 j (omega arith)))
 
 pub holds-spec : {M : Type 1} → statement M
 holds-spec =
@@ -69,7 +66,7 @@ holds-spec =
     μ-loop
     loop-holds
     mul-holds-it
-    element-copy-out-holds-it
+    array-copy-out-holds-it
     holds-it-requires
     returns
     add-k
