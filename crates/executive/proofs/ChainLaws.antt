@@ -18,6 +18,7 @@ use Rattle.executive.specs.States.{tasksOf, semsOf}
 use Rattle.executive.specs.Waits.{taskAt, semAt, waitsFor, heldBy, holderOf, waitsOn, Ends}
 use Rattle.executive.specs.Sound.{Sound}
 use Rattle.executive.specs.Standing.{foundAnd, passes, reaches}
+use Rattle.executive.proofs.LookupLaws.{tasks-count, sems-count}
 use Rattle.executive.specs.Reaches.{Reaches}
 
 -- no more numbers below m than m: d of them that differ are at most m
@@ -72,12 +73,10 @@ pub record Chained (tasks : List Task) (sems : List Sem) : Type 0 where
   pub ends : (i : ℕ) → i < length tasks → Ends tasks sems i
 
 pub tasks-length : (s : State) → Sound s → length (tasksOf s) ≡ s .n
-unfolding tasksOf
-tasks-length s sound = let z = sound .sized in length-take-le (s .n) (s .tasks) (omega arith)
+tasks-length s sound = tasks-count s (sound .sized)
 
 pub sems-length : (s : State) → Sound s → length (semsOf s) ≡ s .m
-unfolding semsOf
-sems-length s sound = let z = sound .sized in length-take-le (s .m) (s .sems) (omega arith)
+sems-length s sound = sems-count s (sound .sized)
 
 pub chained : (s : State) → Sound s → Chained (tasksOf s) (semsOf s)
 chained s sound =
