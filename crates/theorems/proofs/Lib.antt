@@ -2,6 +2,7 @@
 pub mod CaseLaws
 pub mod Exactly
 pub mod FirstLaws
+pub mod Judged
 pub mod Numbers
 pub mod PlayedCases
 pub mod Replay

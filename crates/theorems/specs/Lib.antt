@@ -7,4 +7,5 @@ pub mod Histories
 pub mod StandIns
 pub mod Tight
 pub mod Undo
+pub mod Verdicts
 pub mod When
