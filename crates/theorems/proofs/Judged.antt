@@ -17,7 +17,20 @@ use Rattle.table.proofs.SumLaws.{both, both-left, both-right}
 use Rattle.judging.specs.Periods.{at, sharedPeriod, tooLong, fractions, aboveOne, overFull}
 use Rattle.judging.specs.Demands.{demandDP2, demandFP, TimeUpTo, timeUpTo, decided}
 use Rattle.judging.specs.Verdicts.{
-  firstBelow, found, firstLong, lateDP2, lateFP, firstLateDP2, firstLateFP, numberOf, outcomeOf, named, queuesOf, periodsOf, loadsOf, verdictOf
+  firstBelow,
+  found,
+  firstLong,
+  lateDP2,
+  lateFP,
+  firstLateDP2,
+  firstLateFP,
+  numberOf,
+  outcomeOf,
+  named,
+  queuesOf,
+  periodsOf,
+  loadsOf,
+  verdictOf,
 }
 use Rattle.judging.proofs.DemandLaws.{no-decided}
 use Rattle.judging.proofs.FirstLaws as First
@@ -32,9 +45,10 @@ found-says n test = go (firstBelow n test) refl
   where
     go : (f : Found) → firstBelow n test ≡ f → (found (firstBelow n test) ≡ true) ↔ ((i : ℕ) × (i < n) × (test i ≡ true))
     go (At i) e = (λ h. let r = First.first-found test n i e in (i, r .0, r .1), λ w. ap found e)
-    go Nothing e =
-        ( λ h. let z : _≡_ {A = ℕ} 0 1 = let f : found Nothing ≡ true = sym (ap found e) ∙ h in cc in absurd (omega arith)
-        , λ w. let none = First.first-none test n e (w .0) (w .1) in let yes = w .2 in let z : _≡_ {A = ℕ} 0 1 = cc in absurd (omega arith))
+    go Nothing e = (
+      λ h. let z : _≡_ {A = ℕ} 0 1 = let f : found Nothing ≡ true = sym (ap found e) ∙ h in cc in absurd (omega arith),
+      λ w. let none = First.first-none test n e (w .0) (w .1) in let yes = w .2 in let z : _≡_ {A = ℕ} 0 1 = cc in absurd (omega arith),
+    )
 
 -- the same with the test in words
 found-is : (n : ℕ) (test : ℕ → Bool) (P : ℕ → Type 0) → ((i : ℕ) → (test i ≡ true) ↔ P i) → (found (firstBelow n test) ≡ true) ↔ ((i : ℕ) × (i < n) × P i)
@@ -49,9 +63,10 @@ no-time (yes p) = (λ h. let z : _≡_ {A = ℕ} 0 1 = cc in absurd (omega arith
 no-time (no n) = (λ h. n, λ m. refl)
 
 late-says : {P : Type 0} (queue k : ℕ) (d : Dec P) → ((eqb queue k && not (decided d)) ≡ true) ↔ ((queue ≡ k) × (P → ⊥))
-late-says queue k d =
-    ( λ h. (eqb-true queue k (both-left (eqb queue k) (not (decided d)) h), no-time d .0 (both-right (eqb queue k) (not (decided d)) h))
-    , λ w. both (eqb queue k) (not (decided d)) (eq-eqb queue k (w .0)) (no-time d .1 (w .1)))
+late-says queue k d = (
+  λ h. (eqb-true queue k (both-left (eqb queue k) (not (decided d)) h), no-time d .0 (both-right (eqb queue k) (not (decided d)) h)),
+  λ w. both (eqb queue k) (not (decided d)) (eq-eqb queue k (w .0)) (no-time d .1 (w .1)),
+)
 
 module _ (queues periods loads : List ℕ) where
   full-says : (last : ℕ)

@@ -17,9 +17,11 @@ columnConditions queues periods loads =
     ∷ (10, (i : ℕ) × (i < length queues) × (1000000000000 < sharedPeriod queues periods (suc i)))
     ∷ (11, (fractions queues periods loads 1 (length queues)) .1 < (fractions queues periods loads 1 (length queues)) .0)
     ∷ (12, (fractions queues periods loads 2 (length queues)) .1 < (fractions queues periods loads 2 (length queues)) .0)
-    ∷ (13,
+    ∷ (
+      13,
       (i : ℕ) × (i < length queues) × (at queues i ≡ 2)
-      × (TimeUpTo (demandDP2 queues periods loads (at periods i)) (at periods i) → ⊥))
+          × (TimeUpTo (demandDP2 queues periods loads (at periods i)) (at periods i) → ⊥),
+    )
     ∷ (14, (i : ℕ) × (i < length queues) × (at queues i ≡ 3) × (TimeUpTo (demandFP periods loads i) (at periods i) → ⊥))
     ∷ []
 
