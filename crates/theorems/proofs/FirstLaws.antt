@@ -3,7 +3,7 @@
 use Prim.Native.Nat.{ℕ}
 use mathlib.Core.Path.{_≡_, refl, sym, _∙_}
 use mathlib.Core.Logic.{_↔_, _⊎_, inl, inr}
-use mathlib.Core.Bool.{Bool, true, false}
+use mathlib.Core.Bool.{Bool, true, false, _||_}
 use mathlib.Core.List.{List, [], _∷_}
 use native.Mathlib.Omega.{arith}
 use Rattle.table.specs.Refusals.{firstOf}
@@ -35,3 +35,8 @@ pub first-that : {tests : List (ℕ × Bool)} {conditions : List (ℕ × Type 0)
 first-that nothing-more k = (λ h. sym h ∙ firstOf-none, λ h. firstOf-none ∙ sym h)
 first-that (test-says {k = j} {b = b} {P = P} {tests = tests} {conditions = conditions} says rest) k =
     first-one j b P tests conditions k b refl says (λ e. first-that (rest e) k)
+
+-- one of two tests holds
+pub either : (a b : Bool) → ((a || b) ≡ true) ↔ ((a ≡ true) ⊎ (b ≡ true))
+either true b = (λ h. inl refl, λ w. refl)
+either false b = (λ h. inr h, λ w. elim w [ inl v ↦ let z : _≡_ {A = ℕ} 0 1 = cc in absurd (omega arith) | inr v ↦ v ])

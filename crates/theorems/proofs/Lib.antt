@@ -3,6 +3,7 @@ pub mod CaseLaws
 pub mod Exactly
 pub mod FirstLaws
 pub mod Judged
+pub mod LoadedWhen
 pub mod Numbers
 pub mod PlayedCases
 pub mod Replay

@@ -46,7 +46,9 @@ use Rattle.theorems.specs.Histories.{
 }
 use Rattle.theorems.specs.When.{FirstThat}
 use Rattle.theorems.proofs.Exactly as Exactly
-use Rattle.theorems.proofs.FirstLaws.{nothing-more, test-says, first-that}
+use Rattle.theorems.proofs.FirstLaws.{nothing-more, test-says, first-that, either}
+use Rattle.theorems.proofs.Judged as Judged
+use Rattle.theorems.proofs.LoadedWhen as LoadedWhen
 use Rattle.theorems.proofs.Numbers as Numbers
 use Rattle.theorems.proofs.Replay as Replay
 use Rattle.theorems.proofs.Undone as Undo
@@ -91,31 +93,32 @@ refused-write s buffer h = answered-refused (writeNumber s (length buffer)) (λ 
 -- the tests of a buffer's length in 01's words
 bad-says : (s : State) (bytes : ℕ)
     → (badBuffer s bytes ≡ true) ↔ ((bytes % 32 ≢ 0) ⊎ ((4096 < bytes) ⊎ (bytes < length (encoded (tableOf s)))))
-unfolding badBuffer badLength
-bad-says s bytes = (
-  go (eqb (bytes % 32) 0) (ltb 4096 bytes) (ltb bytes (length (encoded (tableOf s)))) refl refl refl,
-  λ w. back w,
-)
-  where
-    go : (a b c : Bool) → eqb (bytes % 32) 0 ≡ a → ltb 4096 bytes ≡ b → ltb bytes (length (encoded (tableOf s))) ≡ c
-        → ((not a || b) || c) ≡ true → (bytes % 32 ≢ 0) ⊎ ((4096 < bytes) ⊎ (bytes < length (encoded (tableOf s))))
-    go false b c ea eb ec h = inl (eqb-false (bytes % 32) 0 ea)
-    go true true c ea eb ec h = inr (inl (ltb-true 4096 bytes eb))
-    go true false true ea eb ec h = inr (inr (ltb-true bytes (length (encoded (tableOf s))) ec))
-    go true false false ea eb ec h = let z : _≡_ {A = ℕ} 0 1 = cc in absurd (omega arith)
-
-    back : (bytes % 32 ≢ 0) ⊎ ((4096 < bytes) ⊎ (bytes < length (encoded (tableOf s))))
-        → ((not (eqb (bytes % 32) 0) || ltb 4096 bytes) || ltb bytes (length (encoded (tableOf s)))) ≡ true
-    back (inl h) = rw (ne-eqb (bytes % 32) 0 h)
-    back (inr (inl h)) = rw (lt-ltb 4096 bytes h, mathlib.Core.Bool.or-true (not (eqb (bytes % 32) 0)))
-    back (inr (inr h)) =
-        rw (lt-ltb bytes (length (encoded (tableOf s))) h) (mathlib.Core.Bool.or-true (not (eqb (bytes % 32) 0) || ltb 4096 bytes))
+unfolding badBuffer
+bad-says s bytes =
+    let e = either (badLength bytes) (ltb bytes (length (encoded (tableOf s)))) in
+    let l = LoadedWhen.length-says bytes in (
+      λ h. elim (e .0 h) [
+        | inl a ↦ elim (l .0 a) [ inl x ↦ inl x | inr y ↦ inr (inl y) ]
+        | inr c ↦ inr (inr (ltb-true bytes (length (encoded (tableOf s))) c))
+      ],
+      λ w. e .1
+          (elim w [
+            | inl x ↦ inl (l .1 (inl x))
+            | inr v ↦ elim v [ inl y ↦ inl (l .1 (inr y)) | inr z ↦ inr (lt-ltb bytes (length (encoded (tableOf s))) z) ]
+          ]),
+    )
 
 pub write-when : Demands.WriteWhen
 unfolding writeNumber
 write-when s bytes k =
     first-that
     (test-says (eqb-true (s .n) 0, eq-eqb (s .n) 0) (λ some. test-says (bad-says s bytes) (λ good. nothing-more))) k
+
+pub load-when : Demands.LoadWhen
+load-when = LoadedWhen.load-when
+
+pub judge-when : Demands.JudgeWhen
+judge-when = Judged.judge-when
 
 pub refused-load : Demands.RefusedLoad
 refused-load = Trips.refused-empty

@@ -5,6 +5,8 @@ use mathlib.Core.Logic.{_↔_, _≢_, _⊎_}
 use mathlib.Core.Bool.{true, false}
 use mathlib.Core.List.{List, [], _∷_, _++_}
 use lib.ListN.{length, replicate}
+use Rattle.table.specs.declared.Board.{Board}
+use Rattle.table.specs.declared.Task.{Task}
 use Rattle.table.specs.declared.Found.the-variants.{At, Nothing}
 use Rattle.table.specs.WellFormed.{WellFormed}
 use Rattle.records.specs.Records.{Bytes}
@@ -35,7 +37,9 @@ use Rattle.theorems.specs.Histories.{
   numbersOf,
   Among,
 }
+use Rattle.theorems.specs.Loads.{GivenFor}
 use Rattle.theorems.specs.Undo.{Pulses}
+use Rattle.theorems.specs.Verdicts.{judgeConditions}
 use Rattle.theorems.specs.When.{FirstThat}
 
 -- Every state that comes is sound, and its table well formed: so no operation asks more of a state than 01 allows
@@ -67,6 +71,14 @@ WriteWhen =
     (s : State) (bytes k : ℕ)
     → (writeNumber s bytes ≡ k)
     ↔ FirstThat ((7, s .n ≡ 0) ∷ (9, (bytes % 32 ≢ 0) ⊎ ((4096 < bytes) ⊎ (bytes < length (encoded (tableOf s))))) ∷ []) k
+
+-- loading: 1 where the length is wrong; else the first record of which a condition holds gives that number and its place; else 7; else 0
+abbrev pub LoadWhen : Type 0
+LoadWhen = (image : List ℕ) (k place : ℕ) → (((loadOf image) .number ≡ k) × ((loadOf image) .place ≡ place)) ↔ GivenFor image k place
+
+-- judging: the first of the tests 7, 10, 11, 12, 13, 14 that fails, and 0 where none does
+abbrev pub JudgeWhen : Type 0
+JudgeWhen = (tasks : List Task) (board : Board) (k : ℕ) → ((verdictOf tasks board) .number ≡ k) ↔ FirstThat (judgeConditions tasks board) k
 
 -- a refused load hands back the empty state
 abbrev pub RefusedLoad : Type 0

@@ -4,6 +4,7 @@ pub mod Comes
 pub mod Conditions
 pub mod Demands
 pub mod Histories
+pub mod Loads
 pub mod StandIns
 pub mod Tight
 pub mod Undo
