@@ -1,7 +1,8 @@
 /* The proved rack executive for C: link target/staticlib/librack.a, which `rt staticlib rack` writes.
  *
  * All numbers are little-endian; bytes that are not named are 0 in what is written. A slice passes as a pointer and a length; a pointer of a
- * length of 0 need only be not null. A refusal of the boundary itself returns 0 and changes no byte of `out`. */
+ * length of 0 need only be not null. What is written to must not overlap what is read.
+ * A refusal of the boundary itself returns 0 and changes no byte of `out`. */
 #ifndef RACK_H
 #define RACK_H
 

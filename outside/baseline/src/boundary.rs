@@ -36,7 +36,8 @@ pub fn rewrite(bytes: &[u8], buffer: &mut [u8]) -> u64 {
     u64::from(image::write(&state, buffer))
 }
 
-fn step(state: &mut State, record: &[u8]) -> u8 {
+/// The call that a record names; 255 where it names none.
+pub fn step(state: &mut State, record: &[u8]) -> u8 {
     let number = u16::from_le_bytes([record[2], record[3]]);
     match record[0] {
         1 => state.release(number, u64::from_le_bytes(record[8..16].try_into().unwrap())),
