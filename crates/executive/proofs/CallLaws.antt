@@ -3,13 +3,13 @@
 use Prim.Native.Nat.{ℕ, _+_, _≤_, _<_}
 use mathlib.Core.Path.{_≡_, refl, sym, ap, subst, _∙_}
 use mathlib.Core.Logic.{_≢_}
-use mathlib.Core.Bool.{Bool, true, false, cond, _||_}
+use mathlib.Core.Bool.{Bool, true, false, not, cond, _||_}
 use mathlib.Core.List.{List, [], _∷_}
 use native.Mathlib.Omega.{arith}
 use lib.Dec.{ltb, eqb}
 use lib.ListN.{length, getD}
 use lib.Seq.{getD-take}
-use borrow.Author.Tests.{eq-eqb, ne-eqb, eqb-true, eqb-false, ltb-false}
+use borrow.Author.Tests.{eq-eqb, ne-eqb, eqb-true, eqb-false, ltb-true, ltb-false, not-false}
 use Rattle.table.specs.declared.Task.{Task}
 use Rattle.table.specs.declared.Sem.{Sem}
 use Rattle.table.specs.declared.Status.{Status}
@@ -19,8 +19,8 @@ use Rattle.table.specs.Entries.{blankTask, blankSem}
 use Rattle.table.specs.Refusals.{firstOf, answered}
 use Rattle.table.specs.Places.{taskPlace}
 use Rattle.table.proofs.SumLaws.{any-none}
-use Rattle.table.proofs.RefusalLaws.{answered-refused, answered-done, firstOf-here, firstOf-past}
-use Rattle.table.proofs.PlaceLaws.{Come, come-hit, come-miss, come-end}
+use Rattle.table.proofs.RefusalLaws.{answered-refused, answered-done, firstOf-here, firstOf-past, firstOf-zero}
+use Rattle.table.proofs.PlaceLaws.{Come, come-hit, come-miss, come-past, come-end}
 use Rattle.executive.specs.declared.state.State.{State}
 use Rattle.executive.specs.States.{tasksOf, semsOf}
 use Rattle.executive.specs.Waits.{taskAt, semAt, heldBy}
@@ -77,66 +77,88 @@ pub sem-at : (s : State) (k : ℕ) → k < s .m → semAt (semsOf s) k ≡ getD 
 unfolding semAt semsOf
 sem-at s k h = getD-take (s .m) (s .sems) k blankSem h
 
--- a search for a task's number, kept while a loop holds the state as it came in
-pub record Seeks (number : ℕ) (s₀ s : State) (i : ℕ) : Type 0 where
-  pub same : s ≡ s₀
-  pub within : i ≤ s .n
-  pub come : Come (λ t. eqb (t .number) number) (s .tasks) (s .n) i
-
-module _ (number : ℕ) (s₀ s : State) (i : ℕ) (sized : Sized s₀) (seeks : Seeks number s₀ s i) where
-  seeks-sized : Sized s
-  seeks-sized = subst (λ (x : State). Sized x) (sym (seeks .same)) sized
-
-  pub seeks-n : s .n ≡ s₀ .n
-  seeks-n = ap (λ (x : State). x .n) (seeks .same)
-
-  pub seeks-more : i < s₀ .n → ((getD (s .tasks) i blankTask) .number ≡ number → ⊥) → Seeks number s₀ s (i + 1)
-  seeks-more h ne =
-      let sz = seeks-sized in
-      let sn = seeks-n in
-      record {
-        same = seeks .same;
-        within = omega arith;
-        come = come-miss (λ t. eqb (t .number) number) (s .tasks) (s .n) i blankTask (omega arith) (omega arith) (ne-eqb _ _ ne) (seeks .come);
-      }
-
-  pub seeks-hit : i < s₀ .n → (getD (s .tasks) i blankTask) .number ≡ number → taskPlace (tasksOf s) number ≡ At i
-  unfolding taskPlace tasksOf
-  seeks-hit h e =
-      let sz = seeks-sized in
-      let sn = seeks-n in
-      sym (come-hit (λ t. eqb (t .number) number) (s .tasks) (s .n) i blankTask (omega arith) (omega arith) (eq-eqb _ _ e) (seeks .come))
-
-  pub seeks-end : s₀ .n ≤ i → taskPlace (tasksOf s) number ≡ Nothing
-  unfolding taskPlace tasksOf
-  seeks-end h = let sn = seeks-n in sym (come-end (λ t. eqb (t .number) number) (s .tasks) (s .n) i (omega arith) (seeks .come))
-
 -- a call that names a task: what it refuses goes by what the task does, and it changes that task's entry, and then the state
-module _ (s : State) (number : ℕ) (tests : Status → List (ℕ × Bool)) (next : Task → Task) (finish : State → State) where
-  abbrev pub TaskCall : Moved
-  TaskCall =
+module _ (number : ℕ) (tests : Status → List (ℕ × Bool)) (next : Task → Task) (finish : State → State) where
+  abbrev pub TaskCall : State → Moved
+  TaskCall s =
       Call 20 (λ i. tests ((taskAt (tasksOf s) i) .status)) (moved s) (λ i. moved (finish (withTask s i (next (taskAt (tasksOf s) i)))) 0)
       (taskPlace (tasksOf s) number)
 
-  pub task-call-none : taskPlace (tasksOf s) number ≡ Nothing → TaskCall ≡ moved s 20
-  task-call-none e =
-      call-none 20 (λ i. tests ((taskAt (tasksOf s) i) .status)) (moved s) (λ i. moved (finish (withTask s i (next (taskAt (tasksOf s) i)))) 0)
-      (taskPlace (tasksOf s) number) e (eqb-false 20 0 refl)
+-- its search by number, over all the entries there can be, kept while a loop holds the state as it came in
+pub record Seeks (number : ℕ) (s₀ s : State) (answer i : ℕ) : Type 0 where
+  pub same : s ≡ s₀
+  pub within : i ≤ 64
+  pub come : Come (λ t. eqb (t .number) number) (s .tasks) (s .n) i
+  pub unknown : answer ≡ 20
 
-  module _ (i : ℕ) (h : i < s .n) (found : taskPlace (tasksOf s) number ≡ At i) where
-    pub task-call-refused : (k : ℕ) → k ≡ firstOf (tests ((getD (s .tasks) i blankTask) .status)) → k ≢ 0 → TaskCall ≡ moved s k
-    task-call-refused k e ne =
-        call-refused 20 (λ i. tests ((taskAt (tasksOf s) i) .status)) (moved s) (λ i. moved (finish (withTask s i (next (taskAt (tasksOf s) i)))) 0)
-        (taskPlace (tasksOf s) number) i k found
-        (ap (λ (t : Task). firstOf (tests (t .status))) (task-at s i h) ∙ sym e) ne
+module _ (number : ℕ) (s₀ s : State) (answer i : ℕ) (sized : Sized s₀) (seeks : Seeks number s₀ s answer i) where
+  fits : (s .n ≤ 64) × (length (s .tasks) ≡ 64)
+  fits = let z = subst (λ (x : State). Sized x) (sym (seeks .same)) sized in (z .tasksFit, z .tasksLength)
 
-    pub task-call-done : firstOf (tests ((getD (s .tasks) i blankTask) .status)) ≡ 0
-        → TaskCall ≡ moved (finish (withTask s i (next (getD (s .tasks) i blankTask)))) 0
-    task-call-done e =
-        call-done 20 (λ i. tests ((taskAt (tasksOf s) i) .status)) (moved s) (λ i. moved (finish (withTask s i (next (taskAt (tasksOf s) i)))) 0)
-        (taskPlace (tasksOf s) number) i found
-        (ap (λ (t : Task). firstOf (tests (t .status))) (task-at s i h) ∙ e)
-        ∙ ap (λ (t : Task). moved (finish (withTask s i (next t))) 0) (task-at s i h)
+  pub seeks-more : i < 64 → ((getD (s .tasks) i blankTask) .number ≡ number → ⊥) → Seeks number s₀ s answer (i + 1)
+  seeks-more h ne = record { same = seeks .same; within = omega arith; come = go (ltb i (s .n)) refl; unknown = seeks .unknown }
+    where
+      go : (b : Bool) → ltb i (s .n) ≡ b → Come (λ t. eqb (t .number) number) (s .tasks) (s .n) (i + 1)
+      go true e =
+          let f = fits in
+          let below = ltb-true i (s .n) e in
+          come-miss (λ t. eqb (t .number) number) (s .tasks) (s .n) i blankTask below (omega arith) (ne-eqb _ _ ne) (seeks .come)
+      go false e = come-past (λ t. eqb (t .number) number) (s .tasks) (s .n) i (ltb-false i (s .n) e) (seeks .come)
+
+  there : i < s .n → (getD (s .tasks) i blankTask) .number ≡ number → taskPlace (tasksOf s) number ≡ At i
+  unfolding taskPlace tasksOf
+  there h e =
+      let f = fits in
+      sym (come-hit (λ t. eqb (t .number) number) (s .tasks) (s .n) i blankTask h (omega arith) (eq-eqb _ _ e) (seeks .come))
+
+  nowhere : s .n ≤ i → taskPlace (tasksOf s) number ≡ Nothing
+  unfolding taskPlace tasksOf
+  nowhere h = sym (come-end (λ t. eqb (t .number) number) (s .tasks) (s .n) i h (seeks .come))
+
+  module _ (tests : Status → List (ℕ × Bool)) (next : Task → Task) (finish : State → State) where
+    none : s .n ≤ i → TaskCall number tests next finish s ≡ moved s 20
+    none h =
+        call-none 20 (λ i. tests ((taskAt (tasksOf s) i) .status)) (moved s) (λ i. moved (finish (withTask s i (next (taskAt (tasksOf s) i)))) 0)
+        (taskPlace (tasksOf s) number) (nowhere h) (eqb-false 20 0 refl)
+
+    -- the search has come to the end
+    pub seeks-none : 64 ≤ i → moved s answer ≡ TaskCall number tests next finish s₀
+    seeks-none h =
+        let f = fits in
+        ap (moved s) (seeks .unknown) ∙ sym (none (omega arith)) ∙ ap (TaskCall number tests next finish) (seeks .same)
+
+    -- an entry has the number: the refusals decide, and the first is that there is no task at this place
+    module _ (hit : (getD (s .tasks) i blankTask) .number ≡ number) (k : ℕ)
+        (refusal : k ≡ firstOf ((20, not (ltb i (s₀ .n))) ∷ tests ((getD (s .tasks) i blankTask) .status))) where
+      first : k ≡ firstOf ((20, not (ltb i (s .n))) ∷ tests ((getD (s .tasks) i blankTask) .status))
+      first = refusal ∙ ap (λ (x : State). firstOf ((20, not (ltb i (x .n))) ∷ tests ((getD (s .tasks) i blankTask) .status))) (sym (seeks .same))
+
+      pub seeks-refused : k ≢ 0 → moved s k ≡ TaskCall number tests next finish s₀
+      seeks-refused ne = sym (go (ltb i (s .n)) refl) ∙ ap (TaskCall number tests next finish) (seeks .same)
+        where
+          go : (b : Bool) → ltb i (s .n) ≡ b → TaskCall number tests next finish s ≡ moved s k
+          go true e =
+              let below = ltb-true i (s .n) e in
+              call-refused 20 (λ i. tests ((taskAt (tasksOf s) i) .status)) (moved s) (λ i. moved (finish (withTask s i (next (taskAt (tasksOf s) i)))) 0)
+              (taskPlace (tasksOf s) number) i k (there below hit)
+              (ap (λ (t : Task). firstOf (tests (t .status))) (task-at s i below)
+              ∙ sym (first ∙ firstOf-past 20 (not (ltb i (s .n))) (tests ((getD (s .tasks) i blankTask) .status)) (ap not e)))
+              ne
+          go false e =
+              none (ltb-false i (s .n) e)
+              ∙ ap (moved s) (sym (first ∙ firstOf-here 20 (not (ltb i (s .n))) (tests ((getD (s .tasks) i blankTask) .status)) (ap not e)))
+
+      pub seeks-done : k ≡ 0 → moved (finish (withTask s i (next (getD (s .tasks) i blankTask)))) k ≡ TaskCall number tests next finish s₀
+      seeks-done z =
+          let f = firstOf-zero 20 (not (ltb i (s .n))) (tests ((getD (s .tasks) i blankTask) .status)) (eqb-false 20 0 refl) (sym first ∙ z) in
+          let below = ltb-true i (s .n) (not-false (ltb i (s .n)) (f .0)) in
+          ap (moved (finish (withTask s i (next (getD (s .tasks) i blankTask))))) z
+          ∙ sym
+          (call-done 20 (λ i. tests ((taskAt (tasksOf s) i) .status)) (moved s) (λ i. moved (finish (withTask s i (next (taskAt (tasksOf s) i)))) 0)
+          (taskPlace (tasksOf s) number) i (there below hit)
+          (ap (λ (t : Task). firstOf (tests (t .status))) (task-at s i below) ∙ f .1)
+          ∙ ap (λ (t : Task). moved (finish (withTask s i (next t))) 0) (task-at s i below))
+          ∙ ap (TaskCall number tests next finish) (seeks .same)
 
 -- a release that is not refused comes at an allowed time
 pub release-timely : (b : Bool) (last time : ℕ) → firstOf ((23, b) ∷ (22, untimely last time) ∷ []) ≡ 0

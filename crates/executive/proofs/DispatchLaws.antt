@@ -6,21 +6,23 @@ use mathlib.Core.Path.{_≡_, refl, ap, _∙_}
 use mathlib.Core.Bool.{true, false}
 use mathlib.Core.List.{List}
 use native.Mathlib.Omega.{arith}
+use lib.Dec.{eqb}
 use lib.ListN.{length}
+use borrow.Author.Tests.{eq-eqb}
 use Rattle.table.specs.declared.Task.{Task}
 use Rattle.table.specs.declared.Sem.{Sem}
 use Rattle.table.specs.declared.Found.{Found}
 use Rattle.table.specs.declared.Found.the-variants.{At, Nothing}
+use Rattle.table.specs.Entries.{blankTask}
+use Rattle.table.proofs.SumLaws.{any-none}
 use Rattle.executive.specs.declared.state.State.{State}
 use Rattle.executive.specs.declared.standing.Goal.{Goal}
 use Rattle.executive.specs.States.{tasksOf, semsOf}
-use Rattle.executive.specs.Waits.{waitsOn}
+use Rattle.executive.specs.Waits.{taskAt, waitsFor, holderOf, waitsOn}
 use Rattle.executive.specs.Sound.{Sound}
-use Rattle.executive.specs.Standing.{Rank, ownOf, better, standingOf, readyAt, runningOf, numberAt}
+use Rattle.executive.specs.Standing.{Rank, foundAnd, ownOf, better, standingOf, readyAt, runningOf, numberAt}
 use Rattle.executive.specs.Reaches.{Reaches, IsStanding}
-use Rattle.executive.specs.Scan.{takenAt, takes}
-use Rattle.executive.specs.Calls.{stillHolds}
-use Rattle.executive.proofs.CallLaws.{holds-none}
+use Rattle.executive.specs.Scan.{takenAt, takes, waitedOn}
 use Rattle.executive.proofs.RankLaws.{better-total, best-none, best-nothing}
 use Rattle.executive.proofs.ChainLaws.{Long, chained, chain, on-held, tasks-length, sems-length, reaches-true, true-reaches}
 use Rattle.executive.proofs.SoundLaws.{ranges}
@@ -66,14 +68,18 @@ module _ (s : State) (sound : Sound s) where
           waited j k hj e (Reaches.here) = let l = tasks-length s sound in none j (omega arith) e
           waited j k hj e (Reaches.there {k = next} f r) = waited k next (on-held (tasksOf s) (semsOf s) (chained s sound) j k hj e .4) f r
 
-  -- and nobody waits on a task that holds no semaphore
-  pub holds-nothing : (i : ℕ) → i < s .n → stillHolds (semsOf s) i ≡ false → standingOf (tasksOf s) (semsOf s) i ≡ ownOf (tasksOf s) i
-  holds-nothing i h none =
+  -- the same, where that is what was asked
+  pub not-waited-on : (i : ℕ) → i < s .n → waitedOn (tasksOf s) (semsOf s) i ≡ false → standingOf (tasksOf s) (semsOf s) i ≡ ownOf (tasksOf s) i
+  unfolding waitedOn waitsOn taskAt foundAnd
+  not-waited-on i h none =
       nobody-waits i h
       (λ j hj e.
       let l = tasks-length s sound in
-      let o = on-held (tasksOf s) (semsOf s) (chained s sound) j i (omega arith) e in
-      holds-none (semsOf s) i none (o .0) (o .2) (o .3))
+      let no = any-none (λ (t : Task). foundAnd (λ at. eqb at i) (holderOf (semsOf s) (waitsFor (t .status)))) (tasksOf s) none j (omega arith) blankTask in
+      let yes : foundAnd (λ at. eqb at i) (At i) ≡ true = eq-eqb i i refl in
+      let same = ap (foundAnd (λ at. eqb at i)) e in
+      let z : _≡_ {A = ℕ} 0 1 = cc in
+      omega arith)
 
   -- a chain of waits ends, after no more waits than there are semaphores
   pub chains-end : (i : ℕ) → i < s .n → (d : ℕ) × Long (tasksOf s) (semsOf s) i d × (d ≤ s .m)

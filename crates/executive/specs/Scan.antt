@@ -1,4 +1,5 @@
--- What the one scan over the tasks works out. A caller need believe nothing of it: the contracts of running, standing and give do not cite it.
+-- What the one scan over the tasks works out, and the look that may spare it. A caller need believe nothing of it: the contracts of running, standing
+-- and give do not cite it.
 use Prim.Native.Nat.{ℕ, zero, suc, _+_, _-_, _<_}
 use mathlib.Core.Path.{_≡_}
 use mathlib.Core.Bool.{Bool, true, cond, _&&_, _||_}
@@ -10,10 +11,11 @@ use Rattle.table.specs.declared.Sem.{Sem}
 use Rattle.table.specs.declared.Status.{Status}
 use Rattle.table.specs.declared.Found.{Found}
 use Rattle.table.specs.declared.Found.the-variants.{At, Nothing}
+use Rattle.table.specs.Sums.{any}
 use Rattle.executive.specs.declared.standing.Goal.{Goal}
 use Rattle.executive.specs.declared.standing.Goal.the-variants.{Ready, Is, WaitsFor}
 use Rattle.executive.specs.declared.standing.Best.{Best}
-use Rattle.executive.specs.Waits.{taskAt, semAt, waitsFor, heldBy, waitsOn}
+use Rattle.executive.specs.Waits.{taskAt, semAt, waitsFor, heldBy, holderOf, waitsOn}
 use Rattle.executive.specs.Standing.{foundAnd, ownOf, shownDeadline, bestAmong, isReady}
 
 -- the goal takes a task that does this at this position
@@ -109,3 +111,7 @@ scanOf tasks sems goal n = bestFor tasks sems goal (winnerOf tasks sems goal n)
 -- the task that is met there
 unfoldable pub metFound : Best → Found
 metFound best = cond (ltb (best .met) 64) Nothing (At (best .met - 64))
+
+-- somebody waits for a semaphore that the task at a position holds
+unfoldable pub waitedOn : List Task → List Sem → ℕ → Bool
+waitedOn tasks sems i = any (λ t. foundAnd (λ at. eqb at i) (holderOf sems (waitsFor (t .status)))) tasks

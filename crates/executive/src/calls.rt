@@ -71,10 +71,13 @@ fn waits(status: Status) -> bool
     }
 }
 
-// 23, 22, or 0 where a release is accepted.
-fn release_refusal(status: Status, last: u64, time: u64) -> u8
-    ensures { λ r. ⌜ r ≡ firstOf ((23, not (isIdle status)) ∷ (22, untimely last time) ∷ []) ⌝ }
+// 20, 23, 22, or 0 where a release is accepted.
+fn release_refusal(known: bool, status: Status, last: u64, time: u64) -> u8
+    ensures { λ r. ⌜ r ≡ firstOf ((20, not known) ∷ (23, not (isIdle status)) ∷ (22, untimely last time) ∷ []) ⌝ }
 {
+    if !known {
+        return numbers::UNKNOWN_TASK;
+    }
     if !is_idle(status) {
         return numbers::NOT_IDLE;
     }
@@ -96,26 +99,34 @@ fn released(t: Task, time: u64) -> Task
     due.with_status(Status::Ready)
 }
 
-// 24, or 0 where a signal is accepted.
-fn signal_refusal(status: Status) -> u8
-    ensures { λ r. ⌜ r ≡ firstOf ((24, not (isEvent status)) ∷ []) ⌝ }
+// 20, 24, or 0 where a signal is accepted.
+fn signal_refusal(known: bool, status: Status) -> u8
+    ensures { λ r. ⌜ r ≡ firstOf ((20, not known) ∷ (24, not (isEvent status)) ∷ []) ⌝ }
 {
+    if !known {
+        return numbers::UNKNOWN_TASK;
+    }
     if !is_event(status) {
         return numbers::NO_EVENT_WAIT;
     }
     numbers::DONE
 }
 
-// 25, or 0 where a withdrawal is accepted.
-fn withdraw_refusal(status: Status) -> u8
-    ensures { λ r. ⌜ r ≡ firstOf ((25, isNone (waitsFor status)) ∷ []) ⌝ }
+// 20, 25, or 0 where a withdrawal is accepted.
+fn withdraw_refusal(known: bool, status: Status) -> u8
+    ensures { λ r. ⌜ r ≡ firstOf ((20, not known) ∷ (25, isNone (waitsFor status)) ∷ []) ⌝ }
 {
+    if !known {
+        return numbers::UNKNOWN_TASK;
+    }
     if !waits(status) {
         return numbers::NO_SEM_WAIT;
     }
     numbers::DONE
 }
 
+// A call costs two copies of the state, and no third one as long as it builds what it hands back in one place. The
+// three that name a task walk all the entries there can be: a bound that the compiler knows makes the walk short.
 impl State {
     // Takes a time, sets the deadline and makes an idle task ready.
     pub fn release(mut self, number: u16, time: u64) -> Moved
@@ -124,30 +135,24 @@ impl State {
     {
         let n = self.n;
         let last = self.last;
+        let mut answer = numbers::UNKNOWN_TASK;
         let mut i: usize = 0;
-        while i < n {
+        while i < limits::TASKS {
             let t = self.tasks[i];
             if t.number == number {
                 let status = t.status;
-                let refusal = release_refusal(status, last, time);
-                if refusal != numbers::DONE {
-                    return Moved {
-                        state: self,
-                        answer: refusal,
-                    };
+                answer = release_refusal(i < n, status, last, time);
+                if answer == numbers::DONE {
+                    self.tasks[i] = released(t, time);
+                    self.last = time;
                 }
-                self.tasks[i] = released(t, time);
-                self.last = time;
-                return Moved {
-                    state: self,
-                    answer: numbers::DONE,
-                };
+                break;
             }
             i += 1;
         }
         Moved {
             state: self,
-            answer: numbers::UNKNOWN_TASK,
+            answer,
         }
     }
 
@@ -157,29 +162,23 @@ impl State {
         ensures { λ r. ⌜ r ≡ signalOf self number ⌝ }
     {
         let n = self.n;
+        let mut answer = numbers::UNKNOWN_TASK;
         let mut i: usize = 0;
-        while i < n {
+        while i < limits::TASKS {
             let t = self.tasks[i];
             if t.number == number {
                 let status = t.status;
-                let refusal = signal_refusal(status);
-                if refusal != numbers::DONE {
-                    return Moved {
-                        state: self,
-                        answer: refusal,
-                    };
+                answer = signal_refusal(i < n, status);
+                if answer == numbers::DONE {
+                    self.tasks[i] = t.with_status(Status::Ready);
                 }
-                self.tasks[i] = t.with_status(Status::Ready);
-                return Moved {
-                    state: self,
-                    answer: numbers::DONE,
-                };
+                break;
             }
             i += 1;
         }
         Moved {
             state: self,
-            answer: numbers::UNKNOWN_TASK,
+            answer,
         }
     }
 
@@ -189,29 +188,23 @@ impl State {
         ensures { λ r. ⌜ r ≡ withdrawOf self number ⌝ }
     {
         let n = self.n;
+        let mut answer = numbers::UNKNOWN_TASK;
         let mut i: usize = 0;
-        while i < n {
+        while i < limits::TASKS {
             let t = self.tasks[i];
             if t.number == number {
                 let status = t.status;
-                let refusal = withdraw_refusal(status);
-                if refusal != numbers::DONE {
-                    return Moved {
-                        state: self,
-                        answer: refusal,
-                    };
+                answer = withdraw_refusal(i < n, status);
+                if answer == numbers::DONE {
+                    self.tasks[i] = t.with_status(Status::Ready);
                 }
-                self.tasks[i] = t.with_status(Status::Ready);
-                return Moved {
-                    state: self,
-                    answer: numbers::DONE,
-                };
+                break;
             }
             i += 1;
         }
         Moved {
             state: self,
-            answer: numbers::UNKNOWN_TASK,
+            answer,
         }
     }
 
@@ -221,23 +214,18 @@ impl State {
         ensures { λ r. ⌜ r ≡ completeOf self ⌝ }
     {
         let runs = standing::met_at(self.scan(Goal::Ready));
-        let Found::At(i) = runs else {
-            return Moved {
-                state: self,
-                answer: numbers::NOBODY_RUNS,
-            };
-        };
-        if standing::holds(self.sems, self.m, i) {
-            return Moved {
-                state: self,
-                answer: numbers::STILL_HOLDS,
-            };
+        let mut answer = numbers::NOBODY_RUNS;
+        if let Found::At(i) = runs {
+            answer = numbers::STILL_HOLDS;
+            if !standing::holds(self.sems, self.m, i) {
+                let t = self.tasks[i];
+                self.tasks[i] = t.with_status(Status::Idle);
+                answer = numbers::DONE;
+            }
         }
-        let t = self.tasks[i];
-        self.tasks[i] = t.with_status(Status::Idle);
         Moved {
             state: self,
-            answer: numbers::DONE,
+            answer,
         }
     }
 
@@ -247,17 +235,15 @@ impl State {
         ensures { λ r. ⌜ r ≡ blockOf self ⌝ }
     {
         let runs = standing::met_at(self.scan(Goal::Ready));
-        let Found::At(i) = runs else {
-            return Moved {
-                state: self,
-                answer: numbers::NOBODY_RUNS,
-            };
-        };
-        let t = self.tasks[i];
-        self.tasks[i] = t.with_status(Status::Event);
+        let mut answer = numbers::NOBODY_RUNS;
+        if let Found::At(i) = runs {
+            let t = self.tasks[i];
+            self.tasks[i] = t.with_status(Status::Event);
+            answer = numbers::DONE;
+        }
         Moved {
             state: self,
-            answer: numbers::DONE,
+            answer,
         }
     }
 

@@ -8,7 +8,7 @@ ghost use Rattle.executive.specs.Sound.{Sound};
 ghost use Rattle.executive.specs.Waits.{waitsFor};
 ghost use Rattle.executive.specs.Standing.{foundAnd, isReady, runningOf, numberAt, shownDeadline};
 ghost use Rattle.executive.specs.Scan.{takes, semCode, holderLeads, Linked, walked, followed, ledTo};
-ghost use Rattle.executive.specs.Scan.{folded, scanOf, metFound};
+ghost use Rattle.executive.specs.Scan.{folded, scanOf, metFound, waitedOn};
 ghost use lib.ListN.{length, take};
 ghost use Rattle.executive.specs.Calls.{holdsIt, stillHolds, shown, standsOf};
 use crate::state::State;
@@ -290,6 +290,27 @@ impl State {
         self.tasks[i].number
     }
 
+    // Whether somebody waits for a semaphore that the task at a position holds.
+    pub(crate) fn waited_on(self, i: usize) -> bool
+        requires { ⌜ Sound self ⌝ }
+        ensures { λ r. ⌜ r ≡ waitedOn (tasksOf self) (semsOf self) i ⌝ }
+    {
+        let n = self.n;
+        let mut j: usize = 0;
+        while j < n {
+            let t = self.tasks[j];
+            let status = t.status;
+            j += 1;
+            let Status::Waits(k) = status else {
+                continue;
+            };
+            if holds_it(i, self.sems[k as usize]) {
+                return true;
+            }
+        }
+        false
+    }
+
     // The standing of the task with this number: queue, deadline and position, or 20 and zeros.
     pub fn standing(self, number: u16) -> Stands
         requires { ⌜ Sound self ⌝ }
@@ -304,8 +325,7 @@ impl State {
                 position: 0,
             };
         };
-        // Nobody can wait on a task that holds nothing.
-        if !holds(self.sems, self.m, i) {
+        if !self.waited_on(i) {
             return own_standing(self.tasks[i], i as u8);
         }
         let best = self.scan(Goal::Is(i as u8));

@@ -54,6 +54,12 @@ module _ {A : Type 0} (test : A → Bool) where
   unfolding firstPlace
   come-end l n i h come = sym (ap (firstPlace test i) (drop-of-length-le (take n l) (shorter l n i h))) ∙ come
 
+  -- behind the last entry it stays so
+  pub come-past : (l : List A) (n i : ℕ) → n ≤ i → Come l n i → Come l n (i + 1)
+  unfolding firstPlace
+  come-past l n i h come =
+      ap (firstPlace test (i + 1)) (drop-of-length-le (take n l) (shorter l n (i + 1) (omega arith))) ∙ come-end l n i h come
+
   -- where a search from a place on ends: behind the place by k, at the k-th entry, which passes
   found-from : (l : List A) (from i : ℕ) (d : A) → firstPlace test from l ≡ At i
       → (k : ℕ) × (i ≡ from + k) × (k < length l) × (test (getD l k d) ≡ true)

@@ -7,24 +7,28 @@ use Rattle.executive.specs.Calls.{untimely}
 use Rattle.executive.proofs.calls.release_refusal.Statement.{statement}
 use Rattle.executive.proofs.calls.release_refusal.Tie as tie
 
+returns : tie.Need-returns
+unfolding firstOf
+returns c = rw (c .if1 .taken)
+
 is-idle-requires : tie.Need-is-idle-requires
 is-idle-requires c κs = search needs
 
-returns : tie.Need-returns
-unfolding firstOf
-returns c = rw (← c .before .is-idle .ensures, c .if1 .taken)
-
 returns-2 : tie.Need-returns-2
-unfolding firstOf untimely
-returns-2 c = rw (← c .before .before .is-idle .ensures, c .before .if1 .left, lt-ltb _ _ (c .if2 .taken))
+unfolding firstOf
+returns-2 c = rw (c .before .before .if1 .left, ← c .before .is-idle .ensures, c .if2 .taken)
 
 returns-3 : tie.Need-returns-3
 unfolding firstOf untimely
-returns-3 c = rw (← c .before .before .before .is-idle .ensures, c .before .before .if1 .left, le-ltb _ _ (c .before .if2 .left), lt-ltb _ _ (c .if3 .taken))
+returns-3 c = rw (c .before .before .before .if1 .left, ← c .before .before .is-idle .ensures, c .before .if2 .left, lt-ltb _ _ (c .if3 .taken))
 
 returns-4 : tie.Need-returns-4
 unfolding firstOf untimely
-returns-4 c = rw (← c .before .before .before .is-idle .ensures, c .before .before .if1 .left, le-ltb _ _ (c .before .if2 .left), le-ltb _ _ (c .if3 .left))
+returns-4 c = rw (c .before .before .before .before .if1 .left, ← c .before .before .before .is-idle .ensures, c .before .before .if2 .left, le-ltb _ _ (c .before .if3 .left), lt-ltb _ _ (c .if4 .taken))
+
+returns-5 : tie.Need-returns-5
+unfolding firstOf untimely
+returns-5 c = rw (c .before .before .before .before .if1 .left, ← c .before .before .before .is-idle .ensures, c .before .before .if2 .left, le-ltb _ _ (c .before .if3 .left), le-ltb _ _ (c .if4 .left))
 
 pub release-refusal-spec : {M : Type 1} → statement M
-release-refusal-spec = tie.close (tie.spec is-idle-requires returns returns-2 returns-3 returns-4)
+release-refusal-spec = tie.close (tie.spec returns is-idle-requires returns-2 returns-3 returns-4 returns-5)

@@ -27,9 +27,6 @@ met-at-requires c κs = search needs
 enum-known-runs : tie.Need-enum-known-runs
 enum-known-runs c = search needs
 
-enum-told : tie.Need-enum-told
-enum-told c = search needs
-
 -- the task that the scan met is the running one
 run : (c : tie.After-met-at) → c .met-at .result ≡ runningOf (tasksOf (c .before .before .args .t1)) (semsOf (c .before .before .args .t1))
 run c =
@@ -43,13 +40,6 @@ below c =
 
 fits : (c : tie.After-known-told) → c .before .runs .given .0 .0 < 64
 fits c = let h = below c in let z = c .before .before .before .before .before .pre .sized in omega arith
-
-returns : tie.Need-returns
-unfolding blockOf moved
-returns c = let s = c .before .before .before .before .args .t1 in
-    sym
-    (call-none 26 (λ i. []) (moved s) (λ i. moved (nowDoes s i Event) 0) (runningOf (tasksOf s) (semsOf s))
-    (sym (run (c .before .before)) ∙ c .enum-told .given .1) (eqb-false 26 0 refl))
 
 mul-t : tie.Need-mul-t
 mul-t c = omega (arith, fits c)
@@ -66,15 +56,25 @@ mul-t10 c = omega (arith, fits (c .before .before))
 element-set-from-self : tie.Need-element-set-from-self
 element-set-from-self c = fits (c .before .before)
 
-returns-2 : tie.Need-returns-2
+enum-told : tie.Need-enum-told
+enum-told c = search needs
+
+returns : tie.Need-returns
 unfolding blockOf moved nowDoes withTask
-returns-2 c = let s = c .before .before .before .before .before .before .before .args .t1 in
+returns c = let s = c .before .before .before .before .before .before .before .args .t1 in
     let i = c .before .before .before .runs .given .0 .0 in
     ap (λ (t : Task). moved (withTask s i t) 0)
     (c .with-status .ensures ∙ ap (λ (t : Task). withStatus t Event) (sym (task-at s i (below (c .before .before)))))
     ∙ sym
     (call-done 26 (λ i. []) (moved s) (λ i. moved (nowDoes s i Event) 0) (runningOf (tasksOf s) (semsOf s)) i
     (sym (run (c .before .before .before .before .before)) ∙ c .before .before .before .runs .given .1) firstOf-none)
+
+returns-2 : tie.Need-returns-2
+unfolding blockOf moved
+returns-2 c = let s = c .before .before .before .before .args .t1 in
+    sym
+    (call-none 26 (λ i. []) (moved s) (λ i. moved (nowDoes s i Event) 0) (runningOf (tasksOf s) (semsOf s))
+    (sym (run (c .before .before)) ∙ c .enum-told .given .1) (eqb-false 26 0 refl))
 
 pub block-spec : {M : Type 1} → statement M
 block-spec =
@@ -83,11 +83,11 @@ block-spec =
     scan-requires
     met-at-requires
     enum-known-runs
-    enum-told
-    returns
     mul-t
     element-copy-out-t
     with-status-requires
     mul-t10
     element-set-from-self
+    enum-told
+    returns
     returns-2)

@@ -1,4 +1,4 @@
--- `State::standing` meets its contract: who holds nothing has its own standing, else the scan finds the best that reaches the task.
+-- `State::standing` meets its contract: a task on which nobody waits has its own standing, else the scan finds the best that reaches the task.
 -- Assumes nothing.
 use Prim.Native.Nat.{ℕ, _<_}
 use mathlib.Core.Path.{_≡_, refl, sym, ap, _∙_}
@@ -20,7 +20,7 @@ use Rattle.executive.specs.Standing.{Rank, standingOf, ownOf, shownDeadl
 use Rattle.executive.specs.Calls.{standsOf, shown}
 use Rattle.executive.proofs.CallLaws.{call-none, call-done, task-at}
 use Rattle.executive.proofs.RunLaws.{task-below, scanned-standing}
-use Rattle.executive.proofs.DispatchLaws.{holds-nothing}
+use Rattle.executive.proofs.DispatchLaws.{not-waited-on}
 use Rattle.executive.proofs.state.State.standing.Statement.{statement}
 use Rattle.executive.proofs.state.State.standing.Tie as tie
 
@@ -64,16 +64,16 @@ fits c = let h = below c in let z = c .before .before .before .before .pre .size
 
 -- the scan has its standing
 stands : (c : tie.After-scan)
-    → (c .scan .result .position < c .before .before .before .before .before .before .before .before .args .t1 .n)
-    × (standingOf (tasksOf (c .before .before .before .before .before .before .before .before .args .t1)) (semsOf (c .before .before .before .before .before .before .before .before .args .t1)) (c .before .before .before .before .before .found .given .0 .0)
-    ≡ ownOf (tasksOf (c .before .before .before .before .before .before .before .before .args .t1)) (c .scan .result .position))
+    → (c .scan .result .position < c .before .before .before .before .before .before .before .args .t1 .n)
+    × (standingOf (tasksOf (c .before .before .before .before .before .before .before .args .t1)) (semsOf (c .before .before .before .before .before .before .before .args .t1)) (c .before .before .before .before .found .given .0 .0)
+    ≡ ownOf (tasksOf (c .before .before .before .before .before .before .before .args .t1)) (c .scan .result .position))
 stands c =
-    let b = c .before .before .before .before .before .before .before .before in
-    scanned-standing (b .args .t1) (b .pre) (c .before .before .before .before .before .found .given .0 .0) (below (c .before .before .before .before))
+    let b = c .before .before .before .before .before .before .before in
+    scanned-standing (b .args .t1) (b .pre) (c .before .before .before .before .found .given .0 .0) (below (c .before .before .before))
     (c .scan .result) (c .scan .ensures)
 
 small : (c : tie.After-scan) → c .scan .result .position < 64
-small c = let h = stands c .0 in let z = c .before .before .before .before .before .before .before .before .pre .sized in omega arith
+small c = let h = stands c .0 in let z = c .before .before .before .before .before .before .before .pre .sized in omega arith
 
 returns : tie.Need-returns
 unfolding standsOf
@@ -82,33 +82,32 @@ returns c = let s = c .before .before .before .args .t1 in
     (call-none 20 (λ i. []) refused (λ i. shown (standingOf (tasksOf s) (semsOf s) i)) (taskPlace (tasksOf s) (c .before .before .before .args .number))
     (sym (c .before .before .find-task .ensures) ∙ c .enum-told .given .1) (eqb-false 20 0 refl))
 
-holds-requires : tie.Need-holds-requires
-holds-requires c κs = search needs
+waited-on-requires : tie.Need-waited-on-requires
+waited-on-requires c κs = search needs
 
 mul-own-standing : tie.Need-mul-own-standing
-mul-own-standing c = omega (arith, fits (c .before .before .before))
+mul-own-standing c = omega (arith, fits (c .before .before))
 
 element-copy-out-own-standing : tie.Need-element-copy-out-own-standing
-element-copy-out-own-standing c = fits (c .before .before .before)
+element-copy-out-own-standing c = fits (c .before .before)
 
 cast-own-standing : tie.Need-cast-own-standing
-cast-own-standing c = omega (arith, fits (c .before .before .before .before))
+cast-own-standing c = omega (arith, fits (c .before .before .before))
 
 own-standing-requires : tie.Need-own-standing-requires
 own-standing-requires c κs = search needs
 
 returns-2 : tie.Need-returns-2
-unfolding semsOf
-returns-2 c = let b = c .before .before .before .before .before .before .before .before .before in
-    let i = c .before .before .before .before .before .before .found .given .0 .0 in
-    let told = c .before .before .before .before .before in
+returns-2 c = let b = c .before .before .before .before .before .before .before .before in
+    let i = c .before .before .before .before .before .found .given .0 .0 in
+    let told = c .before .before .before .before in
     c .own-standing .ensures
     ∙ answers (b .args .t1) (b .pre) (b .args .number) i i (found told) (below told)
-    (holds-nothing (b .args .t1) (b .pre) i (below told)
-    (sym (c .before .before .before .holds .ensures) ∙ not-true (c .before .before .before .holds .result) (c .before .before .if1 .taken)))
+    (not-waited-on (b .args .t1) (b .pre) i (below told)
+    (sym (c .before .before .before .waited-on .ensures) ∙ not-true (c .before .before .before .waited-on .result) (c .before .before .if1 .taken)))
 
 cast-own-standing-2 : tie.Need-cast-own-standing-2
-cast-own-standing-2 c = omega (arith, fits (c .before .before .before))
+cast-own-standing-2 c = omega (arith, fits (c .before .before))
 
 scan-requires : tie.Need-scan-requires
 scan-requires c κs = search needs
@@ -126,11 +125,11 @@ own-standing-requires-2 : tie.Need-own-standing-requires-2
 own-standing-requires-2 c κs = search needs
 
 returns-3 : tie.Need-returns-3
-returns-3 c = let b = c .before .before .before .before .before .before .before .before .before .before in
+returns-3 c = let b = c .before .before .before .before .before .before .before .before .before in
     let st = stands (c .before .before) in
     c .own-standing2 .ensures
-    ∙ answers (b .args .t1) (b .pre) (b .args .number) (c .before .before .before .before .before .before .before .found .given .0 .0)
-    (c .before .before .scan .result .position) (found (c .before .before .before .before .before .before)) (st .0) (st .1)
+    ∙ answers (b .args .t1) (b .pre) (b .args .number) (c .before .before .before .before .before .before .found .given .0 .0)
+    (c .before .before .scan .result .position) (found (c .before .before .before .before .before)) (st .0) (st .1)
 
 pub standing-spec : {M : Type 1} → statement M
 standing-spec =
@@ -140,7 +139,7 @@ standing-spec =
     enum-known-found
     enum-told
     returns
-    holds-requires
+    waited-on-requires
     mul-own-standing
     element-copy-out-own-standing
     cast-own-standing
