@@ -38,14 +38,8 @@ impl State {
     pub fn fresh() -> Self
         ensures { λ r. ⌜ r ≡ freshState ⌝ }
     {
-        Self {
-            tasks: [Task::blank(); 64],
-            sems: [Sem::blank(); 16],
-            n: 0,
-            m: 0,
-            last: 0,
-            board: Board::built_in(),
-            present: false,
-        }
+        let mut state = State::empty();
+        state.board = Board::built_in();
+        state
     }
 }
