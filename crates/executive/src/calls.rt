@@ -125,8 +125,9 @@ fn withdraw_refusal(known: bool, status: Status) -> u8
     numbers::DONE
 }
 
-// A call costs two copies of the state, and no third one as long as it builds what it hands back in one place. The
-// three that name a task walk all the entries there can be: a bound that the compiler knows makes the walk short.
+// Handing a state over copies it. The three calls that name a task do so twice and no more: they build what they hand
+// back in one place, and walk all the entries there can be, a bound that the compiler knows. Those that act on the
+// running task copy it for the search too.
 impl State {
     // Takes a time, sets the deadline and makes an idle task ready.
     pub fn release(mut self, number: u16, time: u64) -> Moved
