@@ -3,16 +3,15 @@
 use Prim.Native.Nat.{ℕ, _+_, _≤_, _<_}
 use mathlib.Core.Path.{_≡_, refl, sym, ap, subst, _∙_}
 use mathlib.Core.Logic.{_≢_}
-use mathlib.Core.Bool.{Bool, true, false, not, cond, _||_}
+use mathlib.Core.Bool.{Bool, true, false, not, cond, _||_, Bool·not-not}
 use mathlib.Core.List.{List, [], _∷_}
 use native.Mathlib.Omega.{arith}
 use lib.Dec.{ltb, eqb}
 use lib.ListN.{length, getD}
-use lib.Seq.{getD-take}
 use borrow.Author.Tests.{eq-eqb, ne-eqb, eqb-true, eqb-false, ltb-true, ltb-false, not-false}
 use Rattle.table.specs.declared.Task.{Task}
-use Rattle.table.specs.declared.Sem.{Sem}
 use Rattle.table.specs.declared.Status.{Status}
+use Rattle.table.specs.declared.Sem.{Sem}
 use Rattle.table.specs.declared.Found.{Found}
 use Rattle.table.specs.declared.Found.the-variants.{At, Nothing}
 use Rattle.table.specs.Entries.{blankTask, blankSem}
@@ -21,13 +20,15 @@ use Rattle.table.specs.Places.{taskPlace}
 use Rattle.table.proofs.SumLaws.{any-none}
 use Rattle.table.proofs.RefusalLaws.{answered-refused, answered-done, firstOf-here, firstOf-past, firstOf-zero}
 use Rattle.table.proofs.PlaceLaws.{Come, come-hit, come-miss, come-past, come-end}
+use Rattle.waits.specs.Waits.{taskAt, semAt, waitsFor, heldBy}
+use Rattle.waits.specs.Standing.{foundAnd, foundOr, isNone, doingOf, holdsIt, stillHolds}
+use Rattle.waits.proofs.StandingLaws.{doing-is}
 use Rattle.executive.specs.declared.state.State.{State}
-use Rattle.executive.specs.States.{tasksOf, semsOf}
-use Rattle.executive.specs.Waits.{taskAt, semAt, heldBy}
+use Rattle.executive.specs.States.{tasksOf}
 use Rattle.executive.specs.Sound.{Sized}
-use Rattle.executive.specs.Standing.{foundAnd, foundOr}
 use Rattle.executive.specs.declared.calls.Moved.{Moved}
-use Rattle.executive.specs.Calls.{isNone, moved, withTask, untimely, holdsIt, stillHolds}
+use Rattle.executive.specs.Calls.{moved, withTask, busy, untimely, noEventWait, noSemWait, onTask}
+use Rattle.executive.proofs.SoundLaws.{task-at}
 
 -- a call that asks first whether something was found
 module _ {A : Type 0} (number : ℕ) (rest : ℕ → List (ℕ × Bool)) (refused : ℕ → A) (done : ℕ → A) where
@@ -68,21 +69,41 @@ module _ {A : Type 0} (number : ℕ) (rest : ℕ → List (ℕ × Bool)) (refuse
           which false q =
               subst P (sym (call-refused at i (firstOf (rest i)) e refl (eqb-false (firstOf (rest i)) 0 q))) (no-call (firstOf (rest i)))
 
--- an entry that is in use
-pub task-at : (s : State) (i : ℕ) → i < s .n → taskAt (tasksOf s) i ≡ getD (s .tasks) i blankTask
-unfolding taskAt tasksOf
-task-at s i h = getD-take (s .n) (s .tasks) i blankTask h
+-- a call that names a task, by its outcomes
+module _ (s : State) (number : ℕ) (refusals : Task → List (ℕ × Bool)) (done : ℕ → State) where
+  -- no task has the number
+  pub on-none : taskPlace (tasksOf s) number ≡ Nothing → onTask s number refusals done ≡ moved s 20
+  unfolding onTask
+  on-none e =
+      call-none 20 (λ i. refusals (taskAt (tasksOf s) i)) (moved s) (λ i. moved (done i) 0) (taskPlace (tasksOf s) number) e (eqb-false 20 0 refl)
 
-pub sem-at : (s : State) (k : ℕ) → k < s .m → semAt (semsOf s) k ≡ getD (s .sems) k blankSem
-unfolding semAt semsOf
-sem-at s k h = getD-take (s .m) (s .sems) k blankSem h
+  module _ (i : ℕ) (place : taskPlace (tasksOf s) number ≡ At i) (t : Task) (here : taskAt (tasksOf s) i ≡ t) where
+    -- the call's own refusals say a number
+    pub on-refused : (k : ℕ) → firstOf (refusals t) ≡ k → k ≢ 0 → onTask s number refusals done ≡ moved s k
+    unfolding onTask
+    on-refused k e ne =
+        call-refused 20 (λ i. refusals (taskAt (tasksOf s) i)) (moved s) (λ i. moved (done i) 0) (taskPlace (tasksOf s) number) i k place
+        (ap (λ (u : Task). firstOf (refusals u)) here ∙ e) ne
 
--- a call that names a task: what it refuses goes by what the task does, and it changes that task's entry, and then the state
-module _ (number : ℕ) (tests : Status → List (ℕ × Bool)) (next : Task → Task) (finish : State → State) where
-  abbrev pub TaskCall : State → Moved
-  TaskCall s =
-      Call 20 (λ i. tests ((taskAt (tasksOf s) i) .status)) (moved s) (λ i. moved (finish (withTask s i (next (taskAt (tasksOf s) i)))) 0)
-      (taskPlace (tasksOf s) number)
+    -- none of them holds
+    pub on-done : firstOf (refusals t) ≡ 0 → onTask s number refusals done ≡ moved (done i) 0
+    unfolding onTask
+    on-done e =
+        call-done 20 (λ i. refusals (taskAt (tasksOf s) i)) (moved s) (λ i. moved (done i) 0) (taskPlace (tasksOf s) number) i place
+        (ap (λ (u : Task). firstOf (refusals u)) here ∙ e)
+
+  -- what every refusal and every accepted call have in common
+  pub on-keeps : (P : Moved → Type 0) → ((k : ℕ) → P (moved s k))
+      → ((i : ℕ) → taskPlace (tasksOf s) number ≡ At i → firstOf (refusals (taskAt (tasksOf s) i)) ≡ 0 → P (moved (done i) 0))
+      → P (onTask s number refusals done)
+  unfolding onTask
+  on-keeps P refused call =
+      call-keeps 20 (λ i. refusals (taskAt (tasksOf s) i)) (moved s) (λ i. moved (done i) 0) P (taskPlace (tasksOf s) number) (eqb-false 20 0 refl)
+      refused call
+
+-- a call that puts another entry at the task's place, and then perhaps does more
+abbrev pub Replaces : ℕ → (Task → List (ℕ × Bool)) → (Task → Task) → (State → State) → State → Moved
+Replaces number refusals next finish s = onTask s number refusals (λ i. finish (withTask s i (next (taskAt (tasksOf s) i))))
 
 -- its search by number, over all the entries there can be, kept while a loop holds the state as it came in
 pub record Seeks (number : ℕ) (s₀ s : State) (answer i : ℕ) : Type 0 where
@@ -115,50 +136,46 @@ module _ (number : ℕ) (s₀ s : State) (answer i : ℕ) (sized : Sized s₀) (
   unfolding taskPlace tasksOf
   nowhere h = sym (come-end (λ t. eqb (t .number) number) (s .tasks) (s .n) i h (seeks .come))
 
-  module _ (tests : Status → List (ℕ × Bool)) (next : Task → Task) (finish : State → State) where
-    none : s .n ≤ i → TaskCall number tests next finish s ≡ moved s 20
-    none h =
-        call-none 20 (λ i. tests ((taskAt (tasksOf s) i) .status)) (moved s) (λ i. moved (finish (withTask s i (next (taskAt (tasksOf s) i)))) 0)
-        (taskPlace (tasksOf s) number) (nowhere h) (eqb-false 20 0 refl)
+  module _ (refusals : Task → List (ℕ × Bool)) (next : Task → Task) (finish : State → State) where
+    done : ℕ → State
+    done j = finish (withTask s j (next (taskAt (tasksOf s) j)))
 
     -- the search has come to the end
-    pub seeks-none : 64 ≤ i → moved s answer ≡ TaskCall number tests next finish s₀
+    pub seeks-none : 64 ≤ i → moved s answer ≡ Replaces number refusals next finish s₀
+    unfolding done
     seeks-none h =
         let f = fits in
-        ap (moved s) (seeks .unknown) ∙ sym (none (omega arith)) ∙ ap (TaskCall number tests next finish) (seeks .same)
+        ap (moved s) (seeks .unknown) ∙ sym (on-none s number refusals done (nowhere (omega arith)))
+        ∙ ap (Replaces number refusals next finish) (seeks .same)
 
     -- an entry has the number: the refusals decide, and the first is that there is no task at this place
     module _ (hit : (getD (s .tasks) i blankTask) .number ≡ number) (k : ℕ)
-        (refusal : k ≡ firstOf ((20, not (ltb i (s₀ .n))) ∷ tests ((getD (s .tasks) i blankTask) .status))) where
-      first : k ≡ firstOf ((20, not (ltb i (s .n))) ∷ tests ((getD (s .tasks) i blankTask) .status))
-      first = refusal ∙ ap (λ (x : State). firstOf ((20, not (ltb i (x .n))) ∷ tests ((getD (s .tasks) i blankTask) .status))) (sym (seeks .same))
+        (refusal : k ≡ firstOf ((20, not (ltb i (s₀ .n))) ∷ refusals (getD (s .tasks) i blankTask))) where
+      first : k ≡ firstOf ((20, not (ltb i (s .n))) ∷ refusals (getD (s .tasks) i blankTask))
+      first = refusal ∙ ap (λ (x : State). firstOf ((20, not (ltb i (x .n))) ∷ refusals (getD (s .tasks) i blankTask))) (sym (seeks .same))
 
-      pub seeks-refused : k ≢ 0 → moved s k ≡ TaskCall number tests next finish s₀
-      seeks-refused ne = sym (go (ltb i (s .n)) refl) ∙ ap (TaskCall number tests next finish) (seeks .same)
+      pub seeks-refused : k ≢ 0 → moved s k ≡ Replaces number refusals next finish s₀
+      unfolding done
+      seeks-refused ne = sym (go (ltb i (s .n)) refl) ∙ ap (Replaces number refusals next finish) (seeks .same)
         where
-          go : (b : Bool) → ltb i (s .n) ≡ b → TaskCall number tests next finish s ≡ moved s k
+          go : (b : Bool) → ltb i (s .n) ≡ b → Replaces number refusals next finish s ≡ moved s k
           go true e =
               let below = ltb-true i (s .n) e in
-              call-refused 20 (λ i. tests ((taskAt (tasksOf s) i) .status)) (moved s) (λ i. moved (finish (withTask s i (next (taskAt (tasksOf s) i)))) 0)
-              (taskPlace (tasksOf s) number) i k (there below hit)
-              (ap (λ (t : Task). firstOf (tests (t .status))) (task-at s i below)
-              ∙ sym (first ∙ firstOf-past 20 (not (ltb i (s .n))) (tests ((getD (s .tasks) i blankTask) .status)) (ap not e)))
-              ne
+              on-refused s number refusals done i (there below hit) (getD (s .tasks) i blankTask) (task-at s i below) k
+              (sym (first ∙ firstOf-past 20 (not (ltb i (s .n))) (refusals (getD (s .tasks) i blankTask)) (ap not e))) ne
           go false e =
-              none (ltb-false i (s .n) e)
-              ∙ ap (moved s) (sym (first ∙ firstOf-here 20 (not (ltb i (s .n))) (tests ((getD (s .tasks) i blankTask) .status)) (ap not e)))
+              on-none s number refusals done (nowhere (ltb-false i (s .n) e))
+              ∙ ap (moved s) (sym (first ∙ firstOf-here 20 (not (ltb i (s .n))) (refusals (getD (s .tasks) i blankTask)) (ap not e)))
 
-      pub seeks-done : k ≡ 0 → moved (finish (withTask s i (next (getD (s .tasks) i blankTask)))) k ≡ TaskCall number tests next finish s₀
+      pub seeks-done : k ≡ 0 → moved (finish (withTask s i (next (getD (s .tasks) i blankTask)))) k ≡ Replaces number refusals next finish s₀
+      unfolding done
       seeks-done z =
-          let f = firstOf-zero 20 (not (ltb i (s .n))) (tests ((getD (s .tasks) i blankTask) .status)) (eqb-false 20 0 refl) (sym first ∙ z) in
+          let f = firstOf-zero 20 (not (ltb i (s .n))) (refusals (getD (s .tasks) i blankTask)) (eqb-false 20 0 refl) (sym first ∙ z) in
           let below = ltb-true i (s .n) (not-false (ltb i (s .n)) (f .0)) in
           ap (moved (finish (withTask s i (next (getD (s .tasks) i blankTask))))) z
-          ∙ sym
-          (call-done 20 (λ i. tests ((taskAt (tasksOf s) i) .status)) (moved s) (λ i. moved (finish (withTask s i (next (taskAt (tasksOf s) i)))) 0)
-          (taskPlace (tasksOf s) number) i (there below hit)
-          (ap (λ (t : Task). firstOf (tests (t .status))) (task-at s i below) ∙ f .1)
-          ∙ ap (λ (t : Task). moved (finish (withTask s i (next t))) 0) (task-at s i below))
-          ∙ ap (TaskCall number tests next finish) (seeks .same)
+          ∙ ap (λ (t : Task). moved (finish (withTask s i (next t))) 0) (sym (task-at s i below))
+          ∙ sym (on-done s number refusals done i (there below hit) (getD (s .tasks) i blankTask) (task-at s i below) (f .1))
+          ∙ ap (Replaces number refusals next finish) (seeks .same)
 
 -- a release that is not refused comes at an allowed time
 pub release-timely : (b : Bool) (last time : ℕ) → firstOf ((23, b) ∷ (22, untimely last time) ∷ []) ≡ 0
@@ -181,3 +198,28 @@ holds-none sems i none k h by =
     let t : holdsIt i (semAt sems k) ≡ true = ap (foundAnd (λ at. eqb at i)) by ∙ eq-eqb i i refl in
     let z : _≡_ {A = ℕ} 0 1 = cc in
     omega arith
+
+-- what the code asks of an entry by the number of what its task does is what the refusals say of the task
+module _ (s : State) (i : ℕ) (s₀ : State) where
+  told : (f : Bool → List (ℕ × Bool)) (test test' : Bool) → test ≡ test'
+      → firstOf ((20, not (ltb i (s₀ .n))) ∷ f test) ≡ firstOf ((20, not (ltb i (s₀ .n))) ∷ f test')
+  told f test test' e = ap (λ (b : Bool). firstOf ((20, not (ltb i (s₀ .n))) ∷ f b)) e
+
+  now : Status
+  now = (getD (s .tasks) i blankTask) .status
+
+  pub release-told : (time : ℕ)
+      → firstOf ((20, not (ltb i (s₀ .n))) ∷ (23, not (eqb (doingOf ((getD (s .tasks) i blankTask) .status)) 0)) ∷ (22, untimely (s₀ .last) time) ∷ [])
+      ≡ firstOf ((20, not (ltb i (s₀ .n))) ∷ (23, busy (getD (s .tasks) i blankTask)) ∷ (22, untimely (s₀ .last) time) ∷ [])
+  unfolding busy now
+  release-told time = told (λ b. (23, b) ∷ (22, untimely (s₀ .last) time) ∷ []) _ _ (ap not (doing-is now .0))
+
+  pub signal-told : firstOf ((20, not (ltb i (s₀ .n))) ∷ (24, not (eqb (doingOf ((getD (s .tasks) i blankTask) .status)) 2)) ∷ [])
+      ≡ firstOf ((20, not (ltb i (s₀ .n))) ∷ (24, noEventWait (getD (s .tasks) i blankTask)) ∷ [])
+  unfolding noEventWait now
+  signal-told = told (λ b. (24, b) ∷ []) _ _ (ap not (doing-is now .2))
+
+  pub withdraw-told : firstOf ((20, not (ltb i (s₀ .n))) ∷ (25, not (eqb (doingOf ((getD (s .tasks) i blankTask) .status)) 3)) ∷ [])
+      ≡ firstOf ((20, not (ltb i (s₀ .n))) ∷ (25, noSemWait (getD (s .tasks) i blankTask)) ∷ [])
+  unfolding noSemWait now
+  withdraw-told = told (λ b. (25, b) ∷ []) _ _ (ap not (doing-is now .3) ∙ Bool·not-not (isNone (waitsFor now)))

@@ -4,10 +4,10 @@ use Prim.Native.Nat.{ℕ, _≤_, _<_}
 use mathlib.Core.Path.{_≡_, refl, sym, ap, subst, _∙_}
 use mathlib.Core.Logic.{_≢_, _⊎_, inl, inr, ⊎-elim}
 use mathlib.Core.Bool.{Bool, true, false}
-use mathlib.Core.List.{List}
+use mathlib.Core.List.{List, map}
 use native.Mathlib.Omega.{arith}
 use lib.Dec.{eqb}
-use lib.ListN.{getD, set, length-set}
+use lib.ListN.{length, getD, take, drop, set, length-set}
 use lib.Seq.{getD-set-same, getD-set-other, take-set-lt, drop-set-lt}
 use borrow.Author.Tests.{eqb-true, eqb-false}
 use Rattle.table.specs.declared.Task.{Task}
@@ -17,17 +17,19 @@ use Rattle.table.specs.declared.Status.the-variants.{Idle}
 use Rattle.table.specs.declared.Holder.{Holder}
 use Rattle.table.specs.declared.Found.{Found}
 use Rattle.table.specs.declared.Found.the-variants.{At, Nothing}
-use Rattle.table.specs.Entries.{blankTask, blankSem, withStatus, withDeadline, withHolder}
+use Rattle.table.specs.Entries.{blankTask, blankSem, withStatus, withDeadline, withHolder, loadedTask, loadedSem}
 use Rattle.table.specs.WellFormed.{WellFormed}
-use Rattle.table.proofs.OrderLaws.{well-formed-task, well-formed-sem}
+use Rattle.table.proofs.SumLaws.{map-set}
+use Rattle.table.proofs.OrderLaws.{well-formed-same}
+use Rattle.waits.specs.Waits.{taskAt, semAt, waitsFor, heldBy, holderOf, waitsOn, Ends}
+use Rattle.waits.specs.Reaches.{Reaches}
+use Rattle.waits.proofs.ChainLaws.{waits-held, waits-none}
+use Rattle.waits.proofs.StandingLaws.{waits-below}
 use Rattle.executive.specs.declared.state.State.{State}
 use Rattle.executive.specs.States.{emptyState, tasksOf, semsOf}
-use Rattle.executive.specs.Waits.{taskAt, semAt, waitsFor, heldBy, holderOf, waitsOn, Ends}
 use Rattle.executive.specs.Sound.{Sound}
-use Rattle.executive.specs.Reaches.{Reaches}
-use Rattle.executive.specs.Calls.{withTask, withSem}
-use Rattle.executive.proofs.ChainLaws.{tasks-length, sems-length, waits-held, waits-none}
-use Rattle.executive.proofs.StandingLaws.{waits-below}
+use Rattle.executive.specs.Calls.{withTasks, withSems, withTask, withSem}
+use Rattle.executive.proofs.SoundLaws.{tasks-length, sems-length}
 
 -- a chain that ends does so still, where each task on it waits on whom it did, or ends a chain by itself
 pub ends-kept : (tasks tasks' : List Task) (sems sems' : List Sem)
@@ -54,7 +56,7 @@ module _ (s : State) (sound : Sound s) where
   -- a task's entry that is replaced
   module _ (i : ℕ) (h : i < s .n) (y : Task) where
     pub tasks-set : tasksOf (withTask s i y) ≡ set (tasksOf s) i y
-    unfolding tasksOf withTask
+    unfolding tasksOf withTasks
     tasks-set = take-set-lt (s .n) (s .tasks) i y h
 
     pub task-set-same : taskAt (tasksOf (withTask s i y)) i ≡ y
@@ -70,7 +72,7 @@ module _ (s : State) (sound : Sound s) where
   -- a semaphore's entry that is replaced
   module _ (k : ℕ) (h : k < s .m) (y : Sem) where
     pub sems-set : semsOf (withSem s k y) ≡ set (semsOf s) k y
-    unfolding semsOf withSem
+    unfolding semsOf withSems
     sems-set = take-set-lt (s .m) (s .sems) k y h
 
     pub sem-set-same : semAt (semsOf (withSem s k y)) k ≡ y
@@ -83,7 +85,30 @@ module _ (s : State) (sound : Sound s) where
     unfolding semAt
     sem-set-other j ne = ap (λ (t : List Sem). getD t j blankSem) sems-set ∙ getD-set-other (semsOf s) k j y blankSem ne
 
-  -- a task that does something else, or has another deadline
+  -- other task entries, which agree with the old ones, entry by entry, in what the table says
+  module _ (tasks : List Task) (some : 1 ≤ s .n) (long : length tasks ≡ 64) (behind : drop (s .n) tasks ≡ drop (s .n) (s .tasks))
+      (same : map loadedTask (take (s .n) tasks) ≡ map loadedTask (tasksOf s)) where
+    pub tasks-kept : ((k : ℕ) → k < s .m → (i : ℕ) → heldBy ((semAt (semsOf s) k) .holder) ≡ At i → (taskAt (take (s .n) tasks) i) .status ≢ Idle)
+        → ((i : ℕ) → i < s .n → (k : ℕ) → waitsFor ((taskAt (take (s .n) tasks) i) .status) ≡ At k
+        → (k < s .m) × ((j : ℕ) × (heldBy ((semAt (semsOf s) k) .holder) ≡ At j)))
+        → ((i : ℕ) → i < s .n → Ends (take (s .n) tasks) (semsOf s) i)
+        → Sound (withTasks s tasks)
+    unfolding withTasks tasksOf semsOf
+    tasks-kept awake waiting ending =
+        let z = sound .sized in
+        record {
+          sized = record { tasksLength = long; semsLength = z .semsLength; tasksFit = z .tasksFit; semsFit = z .semsFit };
+          tasksBlank = behind ∙ sound .tasksBlank;
+          semsBlank = sound .semsBlank;
+          none = λ e. absurd (omega arith);
+          table = λ e. well-formed-same (tasksOf s) (take (s .n) tasks) (semsOf s) (semsOf s) (s .board) (s .present) same refl (sound .table some);
+          holders = λ k hk i e. (sound .holders k hk i e .0, awake k hk i e);
+          waits = waiting;
+          chains = ending;
+          time = sound .time;
+        }
+
+  -- one task that does something else, or has another deadline
   module _ (i : ℕ) (h : i < s .n) (at : ℕ) (now : Status) where
     abbrev pub Changed : State
     Changed = withTask s i (withStatus (withDeadline (taskAt (tasksOf s) i) at) now)
@@ -91,37 +116,23 @@ module _ (s : State) (sound : Sound s) where
     pub task-kept : ((k : ℕ) → k < s .m → heldBy ((semAt (semsOf s) k) .holder) ≡ At i → now ≢ Idle)
         → ((k : ℕ) → waitsFor now ≡ At k → (k < s .m) × ((j : ℕ) × (heldBy ((semAt (semsOf s) k) .holder) ≡ At j)))
         → ((j : ℕ) → j < s .n → Ends (tasksOf Changed) (semsOf s) j) → Sound Changed
-    unfolding withTask semsOf
+    unfolding tasksOf withTasks
     task-kept busy waiting ending =
-        let z = sound .sized in
-        record {
-          sized =
-              record {
-                tasksLength = length-set (s .tasks) i y ∙ z .tasksLength;
-                semsLength = z .semsLength;
-                tasksFit = z .tasksFit;
-                semsFit = z .semsFit;
-              };
-          tasksBlank = drop-set-lt (s .n) (s .tasks) i y h ∙ sound .tasksBlank;
-          semsBlank = sound .semsBlank;
-          none = λ e. absurd (omega arith);
-          table = λ e. subst (λ (t : List Task). WellFormed t (semsOf s) (s .board) (s .present)) (sym (tasks-set i h y)) formed;
-          holders = λ k hk j e. (sound .holders k hk j e .0, awake k hk j e (eqb j i) refl);
-          waits = λ j hj k e. held j hj k e (eqb j i) refl;
-          chains = ending;
-          time = sound .time;
-        }
+        tasks-kept (set (s .tasks) i y) (omega arith) (length-set (s .tasks) i y ∙ sound .sized .tasksLength) (drop-set-lt (s .n) (s .tasks) i y h) alike
+        (λ k hk j e. awake k hk j e (eqb j i) refl)
+        (λ j hj k e. held j hj k e (eqb j i) refl)
+        ending
       where
         y : Task
         y = withStatus (withDeadline (taskAt (tasksOf s) i) at) now
 
-        formed : WellFormed (set (tasksOf s) i y) (semsOf s) (s .board) (s .present)
-        formed =
+        alike : map loadedTask (take (s .n) (set (s .tasks) i y)) ≡ map loadedTask (tasksOf s)
+        alike =
             unfold taskAt in
-            well-formed-task (tasksOf s) (semsOf s) (s .board) (s .present) i at now blankTask (sound .table (omega arith))
+            ap (map loadedTask) (take-set-lt (s .n) (s .tasks) i y h) ∙ map-set loadedTask (take (s .n) (s .tasks)) i y blankTask refl
 
         awake : (k : ℕ) → k < s .m → (j : ℕ) → heldBy ((semAt (semsOf s) k) .holder) ≡ At j → (b : Bool) → eqb j i ≡ b
-            → (taskAt (tasksOf Changed) j) .status ≢ Idle
+            → (taskAt (take (s .n) (set (s .tasks) i y)) j) .status ≢ Idle
         awake k hk j e true q =
             let same = eqb-true j i q in
             λ idle.
@@ -130,7 +141,7 @@ module _ (s : State) (sound : Sound s) where
         awake k hk j e false q =
             λ idle. sound .holders k hk j e .1 (sym (ap (λ (t : Task). t .status) (task-set-other i h y j (eqb-false j i q))) ∙ idle)
 
-        held : (j : ℕ) → j < s .n → (k : ℕ) → waitsFor ((taskAt (tasksOf Changed) j) .status) ≡ At k → (b : Bool) → eqb j i ≡ b
+        held : (j : ℕ) → j < s .n → (k : ℕ) → waitsFor ((taskAt (take (s .n) (set (s .tasks) i y)) j) .status) ≡ At k → (b : Bool) → eqb j i ≡ b
             → (k < s .m) × ((x : ℕ) × (heldBy ((semAt (semsOf s) k) .holder) ≡ At x))
         held j hj k e true q =
             waiting k
@@ -192,7 +203,7 @@ module _ (s : State) (sound : Sound s) where
         → ((i : ℕ) → i < s .n → waitsFor ((taskAt (tasksOf s) i) .status) ≡ At k
         → ((j : ℕ) × (heldBy now ≡ At j)) × Ends (tasksOf s) (semsOf Handed) i)
         → Sound Handed
-    unfolding withSem tasksOf
+    unfolding withSems tasksOf
     sem-kept holder waiter =
         let z = sound .sized in
         record {
@@ -223,7 +234,10 @@ module _ (s : State) (sound : Sound s) where
             omega arith
 
         formed : 1 ≤ s .n → WellFormed (tasksOf s) (set (semsOf s) k y) (s .board) (s .present)
-        formed e = unfold semAt in well-formed-sem (tasksOf s) (semsOf s) (s .board) (s .present) k now blankSem (sound .table e)
+        formed e =
+            unfold semAt in
+            well-formed-same (tasksOf s) (tasksOf s) (semsOf s) (set (semsOf s) k y) (s .board) (s .present) refl
+            (map-set loadedSem (semsOf s) k y blankSem refl) (sound .table e)
 
         held : (j : ℕ) → j < s .m → (i : ℕ) → heldBy ((semAt (semsOf Handed) j) .holder) ≡ At i → (b : Bool) → eqb j k ≡ b
             → (i < s .n) × ((taskAt (tasksOf s) i) .status ≢ Idle)

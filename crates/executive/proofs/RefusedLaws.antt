@@ -3,43 +3,44 @@
 use Prim.Native.Nat.{ℕ}
 use mathlib.Core.Path.{_≡_, refl}
 use mathlib.Core.Logic.{_⊎_, inl, inr}
-use mathlib.Core.List.{[], _∷_}
+use mathlib.Core.Bool.{Bool}
+use mathlib.Core.List.{List, [], _∷_}
 use borrow.Author.Tests.{eqb-false}
+use Rattle.table.specs.declared.Task.{Task}
 use Rattle.table.specs.declared.Status.the-variants.{Ready, Event}
 use Rattle.table.specs.declared.Holder.{Holder}
 use Rattle.table.specs.declared.Holder.the-variants.{Free, By}
 use Rattle.table.specs.declared.Found.{Found}
-use Rattle.table.specs.Places.{taskPlace, semPlace}
+use Rattle.table.specs.Places.{semPlace}
+use Rattle.waits.specs.Waits.{semAt}
+use Rattle.waits.specs.Standing.{foundOr, isNone, runningOf, stillHolds, closesRing}
 use Rattle.executive.specs.declared.state.State.{State}
 use Rattle.executive.specs.declared.calls.Moved.{Moved}
 use Rattle.executive.specs.States.{tasksOf, semsOf}
-use Rattle.executive.specs.Waits.{semAt}
-use Rattle.executive.specs.Standing.{foundOr, runningOf}
-use Rattle.executive.specs.Calls.{nowDoes, moved, isNone, busy, untimely, noEventWait, noSemWait, stillHolds, closesRing, notHeld, releaseAt, takeOrWait, acquireAt, giveAt, completeAt, releaseOf, signalOf, withdrawOf, acquireOf, giveOf, completeOf, blockOf}
-use Rattle.executive.proofs.CallLaws.{call-keeps}
+use Rattle.executive.specs.Calls.{nowDoes, moved, busy, untimely, noEventWait, noSemWait, notHeld, onTask, releaseAt, takeOrWait, acquireAt, giveAt, completeAt, releaseOf, signalOf, withdrawOf, acquireOf, giveOf, completeOf, blockOf}
+use Rattle.executive.proofs.CallLaws.{call-keeps, on-keeps}
 
 -- done, or the very state
 abbrev pub Same : State → Moved → Type 0
 Same s r = (r .answer ≡ 0) ⊎ (r .state ≡ s)
 
 module _ (s : State) where
+  -- a call that names a task
+  named-same : (number : ℕ) (refusals : Task → List (ℕ × Bool)) (done : ℕ → State) → Same s (onTask s number refusals done)
+  unfolding moved
+  named-same number refusals done = on-keeps s number refusals done (Same s) (λ k. inr refl) (λ i e f. inl refl)
+
   pub release-same : (number time : ℕ) → Same s (releaseOf s number time)
-  unfolding releaseOf moved
-  release-same number time =
-      call-keeps 20 (λ i. (23, busy (tasksOf s) i) ∷ (22, untimely (s .last) time) ∷ []) (moved s) (λ i. moved (releaseAt s i time) 0) (Same s)
-      (taskPlace (tasksOf s) number) (eqb-false 20 0 refl) (λ k. inr refl) (λ i e f. inl refl)
+  unfolding releaseOf
+  release-same number time = named-same number (λ t. (23, busy t) ∷ (22, untimely (s .last) time) ∷ []) (λ i. releaseAt s i time)
 
   pub signal-same : (number : ℕ) → Same s (signalOf s number)
-  unfolding signalOf moved
-  signal-same number =
-      call-keeps 20 (λ i. (24, noEventWait (tasksOf s) i) ∷ []) (moved s) (λ i. moved (nowDoes s i Ready) 0) (Same s)
-      (taskPlace (tasksOf s) number) (eqb-false 20 0 refl) (λ k. inr refl) (λ i e f. inl refl)
+  unfolding signalOf
+  signal-same number = named-same number (λ t. (24, noEventWait t) ∷ []) (λ i. nowDoes s i Ready)
 
   pub withdraw-same : (number : ℕ) → Same s (withdrawOf s number)
-  unfolding withdrawOf moved
-  withdraw-same number =
-      call-keeps 20 (λ i. (25, noSemWait (tasksOf s) i) ∷ []) (moved s) (λ i. moved (nowDoes s i Ready) 0) (Same s)
-      (taskPlace (tasksOf s) number) (eqb-false 20 0 refl) (λ k. inr refl) (λ i e f. inl refl)
+  unfolding withdrawOf
+  withdraw-same number = named-same number (λ t. (25, noSemWait t) ∷ []) (λ i. nowDoes s i Ready)
 
   pub give-same : (number : ℕ) → Same s (giveOf s number)
   unfolding giveOf moved

@@ -3,8 +3,8 @@
 use Prim.Native.Nat.{ℕ, _+_, _≤_, _<_}
 use mathlib.Core.Path.{_≡_, refl, sym, ap, subst, _∙_}
 use mathlib.Core.Logic.{_≢_}
-use mathlib.Core.Bool.{true, false}
-use mathlib.Core.List.{[], _∷_}
+use mathlib.Core.Bool.{Bool, true, false}
+use mathlib.Core.List.{List, [], _∷_}
 use native.Mathlib.Omega.{arith}
 use lib.Dec.{eqb}
 use lib.ListN.{length}
@@ -20,17 +20,18 @@ use Rattle.table.specs.declared.Found.the-variants.{At, Nothing}
 use Rattle.table.specs.Entries.{spanOf, withStatus, withDeadline, withHolder}
 use Rattle.table.specs.Places.{taskPlace, semPlace}
 use Rattle.table.proofs.RefusalLaws.{firstOf-zero}
+use Rattle.waits.specs.Waits.{taskAt, semAt, waitsFor, heldBy, Ends}
+use Rattle.waits.specs.Standing.{foundAnd, foundOr, isNone, isReady, readyAt, waiterAt, reaches, runningOf, heirOf, standingOf, stillHolds, closesRing}
+use Rattle.waits.proofs.RankLaws.{best-none}
+use Rattle.waits.proofs.ChainLaws.{waits-held, waits-none, reaches-true}
+use Rattle.waits.proofs.DispatchLaws.{runs-is}
 use Rattle.executive.specs.declared.state.State.{State}
 use Rattle.executive.specs.declared.calls.Moved.{Moved}
 use Rattle.executive.specs.States.{tasksOf, semsOf}
-use Rattle.executive.specs.Waits.{taskAt, semAt, waitsFor, heldBy, Ends}
 use Rattle.executive.specs.Sound.{Sound}
-use Rattle.executive.specs.Standing.{foundAnd, foundOr, isReady, readyAt, waiterAt, reaches, runningOf, heirOf, standingOf}
-use Rattle.executive.specs.Calls.{withTask, withSem, withLast, nowDoes, nowHeld, moved, isNone, busy, untimely, noEventWait, noSemWait, stillHolds, closesRing, notHeld, releaseAt, takeOrWait, acquireAt, handOver, giveAt, completeAt, releaseOf, signalOf, withdrawOf, acquireOf, giveOf, completeOf, blockOf}
-use Rattle.executive.proofs.CallLaws.{call-keeps, release-timely, holds-none}
-use Rattle.executive.proofs.RankLaws.{best-none}
-use Rattle.executive.proofs.ChainLaws.{chained, tasks-length, sems-length, waits-held, waits-none, reaches-true}
-use Rattle.executive.proofs.RunLaws.{task-below, sem-below, runs-is, runs-below, heir-below}
+use Rattle.executive.specs.Calls.{withTasks, withTask, withSem, withLast, nowDoes, nowHeld, moved, busy, untimely, noEventWait, noSemWait, notHeld, releaseAt, takeOrWait, acquireAt, handOver, giveAt, completeAt, onTask, releaseOf, signalOf, withdrawOf, acquireOf, giveOf, completeOf, blockOf}
+use Rattle.executive.proofs.SoundLaws.{chained, tasks-length, sems-length, task-below, sem-below, runs-below, heir-below}
+use Rattle.executive.proofs.CallLaws.{call-keeps, on-keeps, release-timely, holds-none}
 use Rattle.executive.proofs.KeepLaws.{calm-kept, wait-kept, sem-kept, sem-set-same, task-set-same}
 
 -- what a call hands back is sound
@@ -88,30 +89,30 @@ module _ (s : State) (sound : Sound s) where
 pub release-sound : (s : State) → Sound s → (number time : ℕ) → Sound ((releaseOf s number time) .state)
 unfolding releaseOf moved
 release-sound s sound number time =
-    call-keeps 20 (λ i. (23, busy (tasksOf s) i) ∷ (22, untimely (s .last) time) ∷ []) (moved s) (λ i. moved (releaseAt s i time) 0) Kept
-    (taskPlace (tasksOf s) number) (eqb-false 20 0 refl) (λ k. sound)
-    (λ i e f. go i (task-below s sound number i e) (release-timely (busy (tasksOf s) i) (s .last) time f .1))
+    on-keeps s number (λ t. (23, busy t) ∷ (22, untimely (s .last) time) ∷ []) (λ i. releaseAt s i time) Kept (λ k. sound)
+    (λ i e f. go i (task-below s sound number i e) (release-timely (busy (taskAt (tasksOf s) i)) (s .last) time f .1))
   where
     go : (i : ℕ) → i < s .n → time ≤ 1000000000000000 → Sound (releaseAt s i time)
     go i h small =
         unfold releaseAt in
         last-kept (withTask s i (withStatus (withDeadline (taskAt (tasksOf s) i) (time + spanOf (taskAt (tasksOf s) i))) Ready))
         (calm-kept s sound i h (time + spanOf (taskAt (tasksOf s) i)) Ready (ready-none s sound) (λ k hk e. ready-not-idle)) time
-        (unfold withTask in omega arith) small
+        (unfold withTasks in omega arith) small
+
+-- a call that names a task and makes it ready
+wakes-sound : (s : State) → Sound s → (number : ℕ) (refusals : Task → List (ℕ × Bool)) → Kept (onTask s number refusals (λ i. nowDoes s i Ready))
+unfolding moved
+wakes-sound s sound number refusals =
+    on-keeps s number refusals (λ i. nowDoes s i Ready) Kept (λ k. sound)
+    (λ i e f. does-kept s sound i (task-below s sound number i e) Ready (ready-none s sound) ready-not-idle)
 
 pub signal-sound : (s : State) → Sound s → (number : ℕ) → Sound ((signalOf s number) .state)
-unfolding signalOf moved
-signal-sound s sound number =
-    call-keeps 20 (λ i. (24, noEventWait (tasksOf s) i) ∷ []) (moved s) (λ i. moved (nowDoes s i Ready) 0) Kept (taskPlace (tasksOf s) number)
-    (eqb-false 20 0 refl) (λ k. sound)
-    (λ i e f. does-kept s sound i (task-below s sound number i e) Ready (ready-none s sound) ready-not-idle)
+unfolding signalOf
+signal-sound s sound number = wakes-sound s sound number (λ t. (24, noEventWait t) ∷ [])
 
 pub withdraw-sound : (s : State) → Sound s → (number : ℕ) → Sound ((withdrawOf s number) .state)
-unfolding withdrawOf moved
-withdraw-sound s sound number =
-    call-keeps 20 (λ i. (25, noSemWait (tasksOf s) i) ∷ []) (moved s) (λ i. moved (nowDoes s i Ready) 0) Kept (taskPlace (tasksOf s) number)
-    (eqb-false 20 0 refl) (λ k. sound)
-    (λ i e f. does-kept s sound i (task-below s sound number i e) Ready (ready-none s sound) ready-not-idle)
+unfolding withdrawOf
+withdraw-sound s sound number = wakes-sound s sound number (λ t. (25, noSemWait t) ∷ [])
 
 pub block-sound : (s : State) → Sound s → Sound ((blockOf s) .state)
 unfolding blockOf moved waitsFor
@@ -140,7 +141,7 @@ module _ (s : State) (sound : Sound s) (i : ℕ) (run : runningOf (tasksOf s) (s
       (λ j e.
       let same : i ≡ j = cc in
       subst (λ (x : ℕ). (x < s .n) × ((taskAt (tasksOf s) x) .status ≢ Idle)) same
-      (runs-below s sound i run, ready-awake ((taskAt (tasksOf s) i) .status) (runs-is s sound i run .passes)))
+      (runs-below s sound i run, ready-awake ((taskAt (tasksOf s) i) .status) (runs-is (tasksOf s) (semsOf s) i run .passes)))
       (λ j hj e.
       let w = sound .waits j hj k e .1 .1 in
       let f = ap heldBy free in
@@ -188,11 +189,11 @@ module _ (s : State) (sound : Sound s) (k : ℕ) (h : k < s .m) where
   hand-kept : (w : ℕ) → w < s .n → Sound (nowHeld (nowDoes s w Ready) k (By w))
   unfolding nowHeld heldBy
   hand-kept w hw =
-      sem-kept next kept k (unfold nowDoes withTask in h) (By w)
+      sem-kept next kept k (unfold nowDoes withTasks in h) (By w)
       (λ i e.
       let same : w ≡ i = cc in
       subst (λ (x : ℕ). (x < next .n) × ((taskAt (tasksOf next) x) .status ≢ Idle)) same
-      (unfold nowDoes withTask in hw, λ q. ready-not-idle (sym now ∙ q)))
+      (unfold nowDoes withTasks in hw, λ q. ready-not-idle (sym now ∙ q)))
       (λ i hi e. ((w, refl), Ends.there (waits-held (tasksOf next) (semsOf last) i k e ∙ ap (λ (x : Sem). heldBy (x .holder)) held) end))
     where
       next : State
@@ -208,7 +209,7 @@ module _ (s : State) (sound : Sound s) (k : ℕ) (h : k < s .m) where
       last = withSem next k (withHolder (semAt (semsOf next) k) (By w))
 
       held : semAt (semsOf last) k ≡ withHolder (semAt (semsOf next) k) (By w)
-      held = sem-set-same next kept k (unfold nowDoes withTask in h) (withHolder (semAt (semsOf next) k) (By w))
+      held = sem-set-same next kept k (unfold nowDoes withTasks in h) (withHolder (semAt (semsOf next) k) (By w))
 
       end : Ends (tasksOf next) (semsOf last) w
       end = Ends.here (waits-none (tasksOf next) (semsOf last) w (ap waitsFor now ∙ ready-none s sound))

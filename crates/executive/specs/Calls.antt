@@ -1,8 +1,8 @@
 -- The calls (01, "Dispatch" and "Numbers that come back"): each hands back the next state and a number.
 use Prim.Native.Nat.{ℕ, _+_}
-use mathlib.Core.Bool.{Bool, true, not, _||_}
+use mathlib.Core.Bool.{Bool, not, _||_}
 use mathlib.Core.List.{List, [], _∷_}
-use lib.Dec.{ltb, eqb}
+use lib.Dec.{ltb}
 use lib.ListN.{set}
 use Rattle.table.specs.declared.Task.{Task}
 use Rattle.table.specs.declared.Sem.{Sem}
@@ -14,20 +14,31 @@ use Rattle.table.specs.declared.Found.{Found}
 use Rattle.table.specs.declared.Found.the-variants.{At, Nothing}
 use Rattle.table.specs.Entries.{spanOf, withStatus, withDeadline, withHolder}
 use Rattle.table.specs.Refusals.{firstOf, answered}
-use Rattle.table.specs.Sums.{any}
 use Rattle.table.specs.Places.{taskPlace, semPlace}
+use Rattle.waits.specs.declared.standing.Rank.{Rank}
+use Rattle.waits.specs.Waits.{taskAt, semAt, waitsFor}
+use Rattle.waits.specs.Standing.{
+  foundOr,
+  isNone,
+  isIdle,
+  isEvent,
+  holdsIt,
+  stillHolds,
+  closesRing,
+  standingOf,
+  runningOf,
+  heirOf,
+}
 use Rattle.executive.specs.declared.state.State.{State}
 use Rattle.executive.specs.declared.calls.Moved.{Moved}
 use Rattle.executive.specs.declared.standing.Stands.{Stands}
 use Rattle.executive.specs.States.{tasksOf, semsOf}
-use Rattle.executive.specs.Waits.{taskAt, semAt, waitsFor, heldBy}
-use Rattle.executive.specs.Standing.{Rank, foundAnd, foundOr, reaches, standingOf, runningOf, heirOf, isIdle, isEvent}
 
--- the state with another entry at a place
-unfoldable pub withTask : State → ℕ → Task → State
-withTask s i t =
+-- the state with other task entries, with other semaphore entries, and with another time of the last accepted release
+unfoldable pub withTasks : State → List Task → State
+withTasks s tasks =
     record {
-      tasks = set (s .tasks) i t;
+      tasks = tasks;
       sems = s .sems;
       n = s .n;
       m = s .m;
@@ -36,11 +47,11 @@ withTask s i t =
       present = s .present;
     }
 
-unfoldable pub withSem : State → ℕ → Sem → State
-withSem s k entry =
+unfoldable pub withSems : State → List Sem → State
+withSems s sems =
     record {
       tasks = s .tasks;
-      sems = set (s .sems) k entry;
+      sems = sems;
       n = s .n;
       m = s .m;
       last = s .last;
@@ -48,7 +59,6 @@ withSem s k entry =
       present = s .present;
     }
 
--- the state with another time of the last accepted release
 unfoldable pub withLast : State → ℕ → State
 withLast s time =
     record {
@@ -60,6 +70,13 @@ withLast s time =
       board = s .board;
       present = s .present;
     }
+
+-- the state with another entry at a place
+abbrev pub withTask : State → ℕ → Task → State
+withTask s i t = withTasks s (set (s .tasks) i t)
+
+abbrev pub withSem : State → ℕ → Sem → State
+withSem s k entry = withSems s (set (s .sems) k entry)
 
 -- the state in which the task at a position does something else
 unfoldable pub nowDoes : State → ℕ → Status → State
@@ -73,37 +90,21 @@ nowHeld s k now = withSem s k (withHolder (semAt (semsOf s) k) now)
 unfoldable pub moved : State → ℕ → Moved
 moved s k = record { state = s; answer = k }
 
--- 20, 21 and 26: there is none
-unfoldable pub isNone : Found → Bool
-isNone f = not (foundAnd (λ _. true) f)
-
 -- 23: released task is not idle
-unfoldable pub busy : List Task → ℕ → Bool
-busy tasks i = not (isIdle ((taskAt tasks i) .status))
+unfoldable pub busy : Task → Bool
+busy t = not (isIdle (t .status))
 
 -- 22: time before the last accepted release, or above 10^15
 unfoldable pub untimely : ℕ → ℕ → Bool
 untimely last time = ltb time last || ltb 1000000000000000 time
 
 -- 24: signalled task is not waiting for an event
-unfoldable pub noEventWait : List Task → ℕ → Bool
-noEventWait tasks i = not (isEvent ((taskAt tasks i) .status))
+unfoldable pub noEventWait : Task → Bool
+noEventWait t = not (isEvent (t .status))
 
 -- 25: withdrawn task is not waiting for a semaphore
-unfoldable pub noSemWait : List Task → ℕ → Bool
-noSemWait tasks i = isNone (waitsFor ((taskAt tasks i) .status))
-
--- the semaphore is held by the task at a position
-unfoldable pub holdsIt : ℕ → Sem → Bool
-holdsIt i entry = foundAnd (λ at. eqb at i) (heldBy (entry .holder))
-
--- 27: running task still holds a semaphore
-unfoldable pub stillHolds : List Sem → ℕ → Bool
-stillHolds sems i = any (holdsIt i) sems
-
--- 28: acquiring would close a ring of waits, one's own semaphore included: the holder is the caller, or waits on it, directly or through others
-unfoldable pub closesRing : List Task → List Sem → ℕ → ℕ → Bool
-closesRing tasks sems i k = foundAnd (reaches tasks sems i) (heldBy ((semAt sems k) .holder))
+unfoldable pub noSemWait : Task → Bool
+noSemWait t = isNone (waitsFor (t .status))
 
 -- 29: given semaphore is not held by the running task
 unfoldable pub notHeld : List Sem → ℕ → ℕ → Bool
@@ -134,29 +135,24 @@ giveAt s k = handOver s k (heirOf (tasksOf s) (semsOf s) k)
 unfoldable pub completeAt : State → ℕ → State
 completeAt s i = nowDoes s i Idle
 
--- Release: 20, 23, 22
-unfoldable pub releaseOf : State → ℕ → ℕ → Moved
-releaseOf s number time =
+-- Release, signal and withdraw give a task's number: 20 where no task has it, then the call's own refusals, by that task's entry
+unfoldable pub onTask : State → ℕ → (Task → List (ℕ × Bool)) → (ℕ → State) → Moved
+onTask s number refusals done =
     let at = taskPlace (tasksOf s) number in
     let i = foundOr 0 at in
-    answered
-    (firstOf ((20, isNone at) ∷ (23, busy (tasksOf s) i) ∷ (22, untimely (s .last) time) ∷ []))
-    (moved s)
-    (moved (releaseAt s i time) 0)
+    answered (firstOf ((20, isNone at) ∷ refusals (taskAt (tasksOf s) i))) (moved s) (moved (done i) 0)
+
+-- Release: 20, 23, 22
+unfoldable pub releaseOf : State → ℕ → ℕ → Moved
+releaseOf s number time = onTask s number (λ t. (23, busy t) ∷ (22, untimely (s .last) time) ∷ []) (λ i. releaseAt s i time)
 
 -- Signal makes an event waiter ready: 20, 24
 unfoldable pub signalOf : State → ℕ → Moved
-signalOf s number =
-    let at = taskPlace (tasksOf s) number in
-    let i = foundOr 0 at in
-    answered (firstOf ((20, isNone at) ∷ (24, noEventWait (tasksOf s) i) ∷ [])) (moved s) (moved (nowDoes s i Ready) 0)
+signalOf s number = onTask s number (λ t. (24, noEventWait t) ∷ []) (λ i. nowDoes s i Ready)
 
 -- Withdraw makes a semaphore waiter ready without it: 20, 25
 unfoldable pub withdrawOf : State → ℕ → Moved
-withdrawOf s number =
-    let at = taskPlace (tasksOf s) number in
-    let i = foundOr 0 at in
-    answered (firstOf ((20, isNone at) ∷ (25, noSemWait (tasksOf s) i) ∷ [])) (moved s) (moved (nowDoes s i Ready) 0)
+withdrawOf s number = onTask s number (λ t. (25, noSemWait t) ∷ []) (λ i. nowDoes s i Ready)
 
 -- Acquire: 26, 21, 28
 unfoldable pub acquireOf : State → ℕ → Moved

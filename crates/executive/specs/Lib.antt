@@ -1,9 +1,4 @@
--- What a reader must believe of the state: the empty and the fresh one, who waits for whom, what a sound state is, the standings, and the
--- calls. Scan has what helper functions work out on the way.
+-- What a reader must believe of the state: the empty and the fresh one, what a sound state is, and the calls.
 pub mod States
-pub mod Waits
 pub mod Sound
-pub mod Standing
-pub mod Reaches
-pub mod Scan
 pub mod Calls

@@ -7,9 +7,9 @@ use Rattle.table.specs.declared.Status.the-variants.{Idle}
 use Rattle.table.specs.declared.Found.the-variants.{At}
 use Rattle.table.specs.Entries.{blankTask, blankSem}
 use Rattle.table.specs.WellFormed.{WellFormed}
+use Rattle.waits.specs.Waits.{taskAt, semAt, waitsFor, heldBy, Ends}
 use Rattle.executive.specs.declared.state.State.{State}
 use Rattle.executive.specs.States.{emptyState, tasksOf, semsOf}
-use Rattle.executive.specs.Waits.{taskAt, semAt, waitsFor, heldBy, Ends}
 
 -- the arrays have their lengths, and no more entries are in use than there are
 pub record Sized (s : State) : Type 0 where

@@ -4,14 +4,13 @@ ghost use mathlib.Core.Path.{_≡_};
 ghost use mathlib.Core.Bool.{not};
 ghost use mathlib.Core.List.{[], _∷_};
 ghost use Prim.Native.Nat.{_+_, _≤_};
+ghost use lib.Dec.{eqb};
 ghost use Rattle.table.specs.Refusals.{firstOf};
 ghost use Rattle.table.specs.Entries.{spanOf, withStatus, withDeadline};
-ghost use Rattle.executive.specs.Waits.{waitsFor};
 ghost use Rattle.executive.specs.Sound.{Sized, Sound};
-ghost use Rattle.executive.specs.Standing.{isIdle, isEvent};
+ghost use Rattle.waits.specs.Standing.{doingOf};
 ghost use Rattle.executive.specs.Calls.{
   untimely,
-  isNone,
   releaseOf,
   signalOf,
   withdrawOf,
@@ -20,9 +19,6 @@ ghost use Rattle.executive.specs.Calls.{
   completeOf,
   blockOf,
 };
-use crate::lookup;
-use crate::standing;
-use crate::standing::Goal;
 use crate::state::State;
 use table::Found;
 use table::Holder;
@@ -30,6 +26,8 @@ use table::Status;
 use table::Task;
 use table::limits;
 use table::numbers;
+use waits::lookup;
+use waits::standing;
 
 // What a call hands back: the next state and a number of document 01.
 pub struct Moved {
@@ -37,48 +35,14 @@ pub struct Moved {
     pub answer: u8,
 }
 
-fn is_idle(status: Status) -> bool
-    ensures { λ r. ⌜ r ≡ isIdle status ⌝ }
-{
-    match status {
-        Status::Idle => true,
-        Status::Ready => false,
-        Status::Event => false,
-        Status::Waits(_) => false,
-    }
-}
-
-fn is_event(status: Status) -> bool
-    ensures { λ r. ⌜ r ≡ isEvent status ⌝ }
-{
-    match status {
-        Status::Idle => false,
-        Status::Ready => false,
-        Status::Event => true,
-        Status::Waits(_) => false,
-    }
-}
-
-// Whether a task that does this waits for a semaphore.
-fn waits(status: Status) -> bool
-    ensures { λ r. ⌜ r ≡ not (isNone (waitsFor status)) ⌝ }
-{
-    match status {
-        Status::Idle => false,
-        Status::Ready => false,
-        Status::Event => false,
-        Status::Waits(_) => true,
-    }
-}
-
 // 20, 23, 22, or 0 where a release is accepted.
 fn release_refusal(known: bool, status: Status, last: u64, time: u64) -> u8
-    ensures { λ r. ⌜ r ≡ firstOf ((20, not known) ∷ (23, not (isIdle status)) ∷ (22, untimely last time) ∷ []) ⌝ }
+    ensures { λ r. ⌜ r ≡ firstOf ((20, not known) ∷ (23, not (eqb (doingOf status) 0)) ∷ (22, untimely last time) ∷ []) ⌝ }
 {
     if !known {
         return numbers::UNKNOWN_TASK;
     }
-    if !is_idle(status) {
+    if standing::doing(status) != standing::IDLE {
         return numbers::NOT_IDLE;
     }
     if time < last {
@@ -99,28 +63,15 @@ fn released(t: Task, time: u64) -> Task
     due.with_status(Status::Ready)
 }
 
-// 20, 24, or 0 where a signal is accepted.
-fn signal_refusal(known: bool, status: Status) -> u8
-    ensures { λ r. ⌜ r ≡ firstOf ((20, not known) ∷ (24, not (isEvent status)) ∷ []) ⌝ }
+// 20, the call's own number where the task does not do what is wanted, or 0 where a signal or withdrawal is accepted.
+fn wake_refusal(known: bool, status: Status, wanted: u8, number: u8) -> u8
+    ensures { λ r. ⌜ r ≡ firstOf ((20, not known) ∷ (number, not (eqb (doingOf status) wanted)) ∷ []) ⌝ }
 {
     if !known {
         return numbers::UNKNOWN_TASK;
     }
-    if !is_event(status) {
-        return numbers::NO_EVENT_WAIT;
-    }
-    numbers::DONE
-}
-
-// 20, 25, or 0 where a withdrawal is accepted.
-fn withdraw_refusal(known: bool, status: Status) -> u8
-    ensures { λ r. ⌜ r ≡ firstOf ((20, not known) ∷ (25, isNone (waitsFor status)) ∷ []) ⌝ }
-{
-    if !known {
-        return numbers::UNKNOWN_TASK;
-    }
-    if !waits(status) {
-        return numbers::NO_SEM_WAIT;
+    if standing::doing(status) != wanted {
+        return number;
     }
     numbers::DONE
 }
@@ -169,7 +120,7 @@ impl State {
             let t = self.tasks[i];
             if t.number == number {
                 let status = t.status;
-                answer = signal_refusal(i < n, status);
+                answer = wake_refusal(i < n, status, standing::EVENT, numbers::NO_EVENT_WAIT);
                 if answer == numbers::DONE {
                     self.tasks[i] = t.with_status(Status::Ready);
                 }
@@ -195,7 +146,7 @@ impl State {
             let t = self.tasks[i];
             if t.number == number {
                 let status = t.status;
-                answer = withdraw_refusal(i < n, status);
+                answer = wake_refusal(i < n, status, standing::WAITS, numbers::NO_SEM_WAIT);
                 if answer == numbers::DONE {
                     self.tasks[i] = t.with_status(Status::Ready);
                 }
@@ -214,7 +165,7 @@ impl State {
         requires { ⌜ Sound self ⌝ }
         ensures { λ r. ⌜ r ≡ completeOf self ⌝ }
     {
-        let runs = standing::met_at(self.scan(Goal::Ready));
+        let runs = standing::running(self.tasks, self.n, self.sems, self.m);
         let mut answer = numbers::NOBODY_RUNS;
         if let Found::At(i) = runs {
             answer = numbers::STILL_HOLDS;
@@ -235,7 +186,7 @@ impl State {
         requires { ⌜ Sound self ⌝ }
         ensures { λ r. ⌜ r ≡ blockOf self ⌝ }
     {
-        let runs = standing::met_at(self.scan(Goal::Ready));
+        let runs = standing::running(self.tasks, self.n, self.sems, self.m);
         let mut answer = numbers::NOBODY_RUNS;
         if let Found::At(i) = runs {
             let t = self.tasks[i];
@@ -253,7 +204,7 @@ impl State {
         requires { ⌜ Sound self ⌝ }
         ensures { λ r. ⌜ r ≡ acquireOf self number ⌝ }
     {
-        let runs = standing::met_at(self.scan(Goal::Ready));
+        let runs = standing::running(self.tasks, self.n, self.sems, self.m);
         let Found::At(i) = runs else {
             return Moved {
                 state: self,
@@ -267,8 +218,7 @@ impl State {
                 answer: numbers::UNKNOWN_SEM,
             };
         };
-        let link = self.links(Goal::Is(i as u8));
-        if standing::walk(link, k as u8) >= standing::MET {
+        if standing::closes_ring(self.tasks, self.n, self.sems, self.m, i, k) {
             return Moved {
                 state: self,
                 answer: numbers::RING,
@@ -296,7 +246,7 @@ impl State {
         requires { ⌜ Sound self ⌝ }
         ensures { λ r. ⌜ r ≡ giveOf self number ⌝ }
     {
-        let runs = standing::met_at(self.scan(Goal::Ready));
+        let runs = standing::running(self.tasks, self.n, self.sems, self.m);
         let Found::At(i) = runs else {
             return Moved {
                 state: self,
@@ -317,7 +267,7 @@ impl State {
                 answer: numbers::NOT_HELD,
             };
         }
-        let waiter = standing::met_at(self.scan(Goal::WaitsFor(k as u8)));
+        let waiter = standing::heir(self.tasks, self.n, self.sems, self.m, k);
         let Found::At(heir) = waiter else {
             self.sems[k] = entry.with_holder(Holder::Free);
             return Moved {

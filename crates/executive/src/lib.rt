@@ -1,5 +1,4 @@
 // The executive: the state of a rack and what may be done to it.
 pub mod calls;
-pub mod lookup;
 pub mod standing;
 pub mod state;

@@ -18,7 +18,7 @@ use Rattle.table.specs.WellFormed.{taskInRange, semInRange, taskBefore, semBefo
 use Rattle.table.proofs.SumLaws.{any-map}
 use Rattle.executive.specs.declared.state.State.{State}
 use Rattle.executive.specs.States.{tasksOf, semsOf, emptyState}
-use Rattle.executive.specs.Waits.{taskAt, semAt, waitsFor, heldBy, holderOf, waitsOn, here}
+use Rattle.waits.specs.Waits.{taskAt, semAt, waitsFor, heldBy, holderOf, waitsOn, here}
 use Rattle.executive.specs.Sound.{Sized, Sound}
 use Rattle.records.specs.Records.{loadedTask, loadedSem, encodeTask, encodeBoard, encodeSem}
 use Rattle.image.specs.declared.load.Front.{Front}

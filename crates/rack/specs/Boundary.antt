@@ -14,7 +14,7 @@ use Rattle.executive.specs.declared.state.State.{State}
 use Rattle.executive.specs.declared.calls.Moved.{Moved}
 use Rattle.executive.specs.declared.standing.Stands.{Stands}
 use Rattle.executive.specs.States.{tasksOf, semsOf}
-use Rattle.executive.specs.Standing.{numberAt, runningOf}
+use Rattle.waits.specs.Standing.{numberAt, runningOf}
 use Rattle.executive.specs.Calls.{
   moved,
   standsOf,

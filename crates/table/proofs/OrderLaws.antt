@@ -3,20 +3,18 @@
 use Prim.Native.Nat.{ℕ, zero, suc, _+_, _≤_, _<_}
 use mathlib.Core.Path.{_≡_, refl, sym, ap, _∙_}
 use mathlib.Core.Bool.{Bool, true, false, not, _&&_, _||_}
-use mathlib.Core.List.{List, [], _∷_, _++_}
+use mathlib.Core.List.{List, [], _∷_, map}
 use native.Mathlib.Nat.{le-of-suc-le-suc, not-suc-le-zero}
 use native.Mathlib.Omega.{arith}
 use lib.Dec.{leb, ltb, eqb}
-use lib.ListN.{length, getD, set, length-set}
+use lib.ListN.{length, getD, length-map}
 use borrow.Author.Tests.{leb-true, le-leb, ltb-true, eq-eqb, not-true}
 use Rattle.table.specs.declared.Board.{Board}
 use Rattle.table.specs.declared.Task.{Task}
 use Rattle.table.specs.declared.Sem.{Sem}
 use Rattle.table.specs.Entries.{builtIn}
 use Rattle.table.specs.Sums.{every, any}
-use Rattle.table.specs.declared.Status.{Status}
-use Rattle.table.specs.declared.Holder.{Holder}
-use Rattle.table.specs.Entries.{withStatus, withDeadline, withHolder}
+use Rattle.table.specs.Entries.{loadedTask, loadedSem}
 use Rattle.table.specs.WellFormed.{
   within,
   taskInRange,
@@ -29,7 +27,7 @@ use Rattle.table.specs.WellFormed.{
   usedOnce,
   WellFormed,
 }
-use Rattle.table.proofs.SumLaws.{both, both-left, both-right, any-none, every-set, any-set}
+use Rattle.table.proofs.SumLaws.{both, both-left, both-right, any-none, any-map, every-map}
 
 -- a value that lies within its bounds, and back
 pub within-true : (least value most : ℕ) → within least value most ≡ true → (least ≤ value) × (value ≤ most)
@@ -182,6 +180,13 @@ pub not-so : (b : Bool) → (b ≡ true → ⊥) → b ≡ false
 not-so true h = absurd (h refl)
 not-so false h = refl
 
+-- fields that are not all in range
+pub task-out : (t : Task) → (TaskRange t → ⊥) → false ≡ taskInRange t
+task-out t h = sym (not-so (taskInRange t) (λ e. h (task-range t e)))
+
+pub board-out : (b : Board) → (BoardRange b → ⊥) → false ≡ boardInRange b
+board-out b h = sym (not-so (boardInRange b) (λ e. h (board-range b e)))
+
 -- the first two semaphores stand in order, and so do those behind
 rising : (x y : Sem) (rest : List Sem) → ordered semBefore (x ∷ y ∷ rest) ≡ true → (x .number < y .number) × (ordered semBefore (y ∷ rest) ≡ true)
 unfolding ordered semBefore
@@ -205,68 +210,43 @@ rises (x ∷ y ∷ rest) d h zero (suc (suc j)) less inside =
 rises (x ∷ y ∷ rest) d h (suc i) (suc j) less inside =
     rises (y ∷ rest) d (rising x y rest h .1) i j (le-of-suc-le-suc less) (le-of-suc-le-suc inside)
 
--- an entry that is replaced by one which stands alike keeps the order
-pub ordered-set : {A : Type 0} (before : A → A → Bool) (l : List A) (i : ℕ) (y d : A)
-    → ((x : A) → before y x ≡ before (getD l i d) x) → ((x : A) → before x y ≡ before x (getD l i d)) → ordered before (set l i y) ≡ ordered before l
+-- a function of the entries that an order does not see
+ordered-map : {A : Type 0} (f : A → A) (before : A → A → Bool) → ((x y : A) → before (f x) (f y) ≡ before x y) → (l : List A)
+    → ordered before (map f l) ≡ ordered before l
 unfolding ordered
-ordered-set before [] i y d h k = refl
-ordered-set before (x ∷ []) zero y d h k = refl
-ordered-set before (x ∷ []) (suc i) y d h k = refl
-ordered-set before (x ∷ z ∷ rest) zero y d h k = ap (λ (b : Bool). b && ordered before (z ∷ rest)) (h z)
-ordered-set before (x ∷ z ∷ rest) (suc zero) y d h k =
-    let a = ordered-set before (z ∷ rest) zero y d h k in
-    ap (λ (b : Bool). b && ordered before (y ∷ rest)) (k x) ∙ ap (λ (b : Bool). before x z && b) a
-ordered-set before (x ∷ z ∷ rest) (suc (suc i)) y d h k = ap (λ (b : Bool). before x z && b) (ordered-set before (z ∷ rest) (suc i) y d h k)
+ordered-map f before same [] = refl
+ordered-map f before same (x ∷ []) = refl
+ordered-map f before same (x ∷ y ∷ rest) =
+    ap (λ (b : Bool). b && ordered before (f y ∷ map f rest)) (same x y) ∙ ap (λ (b : Bool). before x y && b) (ordered-map f before same (y ∷ rest))
 
--- numbers that are used once stay so where an entry keeps its number
-pub once-set : (tasks : List Task) (i : ℕ) (y d : Task) → y .number ≡ (getD tasks i d) .number → usedOnce (set tasks i y) ≡ usedOnce tasks
+once-map : (l : List Task) → usedOnce (map loadedTask l) ≡ usedOnce l
 unfolding usedOnce used
-once-set [] i y d e = refl
-once-set (t ∷ rest) zero y d e = ap (λ (n : ℕ). not (any (λ u. eqb (u .number) n) rest) && usedOnce rest) e
-once-set (t ∷ rest) (suc i) y d e =
-    ap (λ (b : Bool). not b && usedOnce (set rest i y))
-    (any-set (λ u. eqb (u .number) (t .number)) rest i y d (ap (λ (n : ℕ). eqb n (t .number)) e))
-    ∙ ap (λ (b : Bool). not (any (λ u. eqb (u .number) (t .number)) rest) && b) (once-set rest i y d e)
+once-map [] = refl
+once-map (x ∷ xs) =
+    ap (λ (b : Bool). not b && usedOnce (map loadedTask xs)) (any-map loadedTask (λ t. eqb (t .number) (x .number)) xs)
+    ∙ ap (λ (b : Bool). not (any (λ t. eqb (t .number) (x .number)) xs) && b) (once-map xs)
 
--- a table stays well formed where a task has another deadline or does something else
-pub well-formed-task : (tasks : List Task) (sems : List Sem) (board : Board) (present : Bool) (i : ℕ) (at : ℕ) (now : Status) (d : Task)
-    → WellFormed tasks sems board present → WellFormed (set tasks i (withStatus (withDeadline (getD tasks i d) at) now)) sems board present
-unfolding taskInRange taskBefore
-well-formed-task tasks sems board present i at now d w =
-    let y = withStatus (withDeadline (getD tasks i d) at) now in
-    let l = length-set tasks i y in
-    let some = w .some in
-    let few = w .tasksFit in
+-- a table whose entries agree with those of a well-formed one in what is loaded, all but what a task does and when, and who holds a semaphore, is
+-- well formed
+pub well-formed-same : (tasks tasks' : List Task) (sems sems' : List Sem) (board : Board) (present : Bool) → map loadedTask tasks' ≡ map loadedTask tasks
+    → map loadedSem sems' ≡ map loadedSem sems → WellFormed tasks sems board present → WellFormed tasks' sems' board present
+unfolding taskInRange taskBefore semInRange semBefore
+well-formed-same tasks tasks' sems sems' board present t s w =
+    let n : length tasks' ≡ length tasks = sym (length-map tasks' loadedTask) ∙ ap length t ∙ length-map tasks loadedTask in
+    let m : length sems' ≡ length sems = sym (length-map sems' loadedSem) ∙ ap length s ∙ length-map sems loadedSem in
     record {
-      some = omega arith;
-      tasksFit = omega arith;
-      semsFit = w .semsFit;
-      taskRanges = every-set taskInRange tasks i y d refl ∙ w .taskRanges;
-      taskOrder = ordered-set taskBefore tasks i y d (λ x. refl) (λ x. refl) ∙ w .taskOrder;
-      taskNumbers = once-set tasks i y d refl ∙ w .taskNumbers;
-      semRanges = w .semRanges;
-      semOrder = w .semOrder;
+      some = omega (arith, w .some);
+      tasksFit = omega (arith, w .tasksFit);
+      semsFit = omega (arith, w .semsFit);
+      taskRanges = alike loadedTask (every taskInRange) (every-map loadedTask taskInRange (λ x. refl)) tasks tasks' t ∙ w .taskRanges;
+      taskOrder = alike loadedTask (ordered taskBefore) (ordered-map loadedTask taskBefore (λ x y. refl)) tasks tasks' t ∙ w .taskOrder;
+      taskNumbers = alike loadedTask usedOnce once-map tasks tasks' t ∙ w .taskNumbers;
+      semRanges = alike loadedSem (every semInRange) (every-map loadedSem semInRange (λ x. refl)) sems sems' s ∙ w .semRanges;
+      semOrder = alike loadedSem (ordered semBefore) (ordered-map loadedSem semBefore (λ x y. refl)) sems sems' s ∙ w .semOrder;
       figures = w .figures;
       absent = w .absent;
     }
-
--- and where a semaphore is held otherwise
-pub well-formed-sem : (tasks : List Task) (sems : List Sem) (board : Board) (present : Bool) (k : ℕ) (now : Holder) (d : Sem)
-    → WellFormed tasks sems board present → WellFormed tasks (set sems k (withHolder (getD sems k d) now)) board present
-unfolding semInRange semBefore
-well-formed-sem tasks sems board present k now d w =
-    let y = withHolder (getD sems k d) now in
-    let l = length-set sems k y in
-    let few = w .semsFit in
-    record {
-      some = w .some;
-      tasksFit = w .tasksFit;
-      semsFit = omega arith;
-      taskRanges = w .taskRanges;
-      taskOrder = w .taskOrder;
-      taskNumbers = w .taskNumbers;
-      semRanges = every-set semInRange sems k y d refl ∙ w .semRanges;
-      semOrder = ordered-set semBefore sems k y d (λ x. refl) (λ x. refl) ∙ w .semOrder;
-      figures = w .figures;
-      absent = w .absent;
-    }
+  where
+    alike : {A : Type 0} (f : A → A) (test : List A → Bool) → ((l : List A) → test (map f l) ≡ test l) → (l l' : List A) → map f l' ≡ map f l
+        → test l' ≡ test l
+    alike f test sees l l' e = sym (sees l') ∙ ap test e ∙ sees l

@@ -27,17 +27,21 @@ use Rattle.table.proofs.OrderLaws.{once}
 use Rattle.table.proofs.SumLaws.{any-none}
 use Rattle.executive.specs.declared.state.State.{State}
 use Rattle.executive.specs.declared.calls.Moved.{Moved}
+use Rattle.executive.specs.declared.standing.Stands.{Stands}
 use Rattle.executive.specs.States.{tasksOf, semsOf}
 use Rattle.executive.specs.Sound.{Sized, Sound}
-use Rattle.executive.specs.Waits.{taskAt, semAt, waitsFor, heldBy}
-use Rattle.executive.specs.Standing.{foundAnd, foundOr, isIdle, isReady, isEvent, readyAt, reaches, standingOf, runningOf, bestAmong}
-use Rattle.executive.specs.Reaches.{Reaches}
-use Rattle.executive.proofs.ChainLaws.{Chained, chained, reaches-true, true-reaches}
-use Rattle.executive.specs.Calls.{moved, isNone, closesRing, acquireAt, takeOrWait, holdsIt, stillHolds, notHeld, giveAt, completeAt, nowDoes, releaseAt, busy, untimely, noEventWait, noSemWait, releaseOf, signalOf, withdrawOf, acquireOf, giveOf, completeOf, blockOf}
-use Rattle.executive.proofs.RankLaws.{best-is, best-none, best-nothing}
+use Rattle.waits.specs.Waits.{taskAt, semAt, waitsFor, heldBy}
+use Rattle.waits.specs.Standing.{foundAnd, foundOr, isNone, closesRing, holdsIt, stillHolds, isIdle, isReady, isEvent, readyAt, reaches, standingOf, runningOf, bestAmong}
+use Rattle.waits.specs.Reaches.{Reaches}
+use Rattle.waits.proofs.ChainLaws.{reaches-true, true-reaches}
+use Rattle.waits.proofs.DispatchLaws.{standing-is, standing-one}
+use Rattle.executive.proofs.SoundLaws.{chained}
+use Rattle.executive.specs.Calls.{moved, onTask, acquireAt, takeOrWait, notHeld, giveAt, completeAt, nowDoes, releaseAt, shown, standsOf, busy, untimely, noEventWait, noSemWait, releaseOf, signalOf, withdrawOf, acquireOf, giveOf, completeOf, blockOf}
+use Rattle.waits.proofs.RankLaws.{best-is, best-none, best-nothing}
 use Rattle.executive.proofs.LookupLaws.{tasks-count, sems-count, task-found, sem-once}
 use Rattle.theorems.specs.Histories.{Call, release, signal, withdraw, acquire, give, complete, block, called}
 use Rattle.theorems.specs.When.{FirstThat}
+use Rattle.theorems.specs.Standings.{StandingAnswer, noStanding}
 use Rattle.theorems.specs.Conditions.{conditionsOf, UnknownTask, TheTask, UnknownSem, TheSem, NobodyRuns, TheRunner, releaseConditions, signalConditions, withdrawConditions, acquireConditions, giveConditions, completeConditions, blockConditions}
 use Rattle.theorems.proofs.FirstLaws.{Says, nothing-more, test-says, first-that}
 
@@ -166,6 +170,13 @@ module _ (s : State) (sound : Sound s) where
             subst (λ (j : ℕ). P (getD (tasksOf s) j blankTask)) one (w .3),
       )
 
+  -- what is found is a task with that number
+  the-place : (number i : ℕ) → taskPlace (tasksOf s) number ≡ At i → (i < length (tasksOf s)) × ((taskAt (tasksOf s) i) .number ≡ number)
+  unfolding taskPlace taskAt
+  the-place number i e =
+      let f = found (λ t. eqb (t .number) number) (tasksOf s) i blankTask e in
+      (f .0, eqb-true ((getD (tasksOf s) i blankTask) .number) number (f .1))
+
   -- a test of the task that is found says what the condition says of the task with the number
   of-task : (number : ℕ) (test : Task → Bool) (P : Task → Type 0) → ((t : Task) → (test t ≡ true) ↔ P t)
       → isNone (taskPlace (tasksOf s) number) ≡ false
@@ -177,7 +188,7 @@ module _ (s : State) (sound : Sound s) where
       (λ h. the .0 (here .0 h), λ w. here .1 (the .1 w))
 
   pub release-when : (number time k : ℕ) → ((called s (release number time)) .answer ≡ k) ↔ FirstThat (releaseConditions s number time) k
-  unfolding called releaseOf busy
+  unfolding called releaseOf onTask busy
   release-when number time k =
       let tests =
       first-that
@@ -187,7 +198,7 @@ module _ (s : State) (sound : Sound s) where
       (λ h. tests .0 (sym (answer-of s _ _) ∙ h), λ w. answer-of s _ _ ∙ tests .1 w)
 
   pub signal-when : (number k : ℕ) → ((called s (signal number)) .answer ≡ k) ↔ FirstThat (signalConditions s number) k
-  unfolding called signalOf noEventWait
+  unfolding called signalOf onTask noEventWait
   signal-when number k =
       let tests =
       first-that
@@ -197,7 +208,7 @@ module _ (s : State) (sound : Sound s) where
       (λ h. tests .0 (sym (answer-of s _ _) ∙ h), λ w. answer-of s _ _ ∙ tests .1 w)
 
   pub withdraw-when : (number k : ℕ) → ((called s (withdraw number)) .answer ≡ k) ↔ FirstThat (withdrawConditions s number) k
-  unfolding called withdrawOf noSemWait
+  unfolding called withdrawOf onTask noSemWait
   withdraw-when number k =
       let tests =
       first-that
@@ -206,6 +217,38 @@ module _ (s : State) (sound : Sound s) where
       (of-task number (λ t. isNone (waitsFor (t .status))) (λ t. (j : ℕ) → t .status ≢ Waits j) (λ t. waits-says (t .status)) known)
       (λ waits. nothing-more))) k in
       (λ h. tests .0 (sym (answer-of s _ _) ∙ h), λ w. answer-of s _ _ ∙ tests .1 w)
+
+  -- the standing of a number: 20 and zeros exactly if no task has it, else that of the task that has it
+  pub standing-when : (number : ℕ) (a : Stands) → (standsOf s number ≡ a) ↔ StandingAnswer s number a
+  standing-when number a = (there (taskPlace (tasksOf s) number) refl, back)
+    where
+      unknown : taskPlace (tasksOf s) number ≡ Nothing → standsOf s number ≡ noStanding
+      unknown e = unfold standsOf noStanding firstOf answered isNone foundAnd in rw e
+
+      known : (i : ℕ) → taskPlace (tasksOf s) number ≡ At i → standsOf s number ≡ shown (standingOf (tasksOf s) (semsOf s) i)
+      known i e = unfold standsOf firstOf answered isNone foundAnd foundOr in rw e
+
+      there : (f : Found) → taskPlace (tasksOf s) number ≡ f → standsOf s number ≡ a → StandingAnswer s number a
+      there Nothing e h = inl (task-unknown number .0 (none-says (taskPlace (tasksOf s) number) .1 e), sym h ∙ unknown e)
+      there (At i) e h =
+          inr (
+            i,
+            the-place number i e .0,
+            the-place number i e .1,
+            standingOf (tasksOf s) (semsOf s) i,
+            standing-is (tasksOf s) (semsOf s) (chained s sound) i (the-place number i e .0),
+            sym h ∙ known i e,
+          )
+
+      back : StandingAnswer s number a → standsOf s number ≡ a
+      back (inl w) = unknown (none-says (taskPlace (tasksOf s) number) .0 (task-unknown number .1 (w .0))) ∙ sym (w .1)
+      back (inr (i, below, same, r, is, e)) =
+          let n = tasks-count s (sound .sized) in
+          let place : taskPlace (tasksOf s) number ≡ At i =
+          subst (λ (x : ℕ). taskPlace (tasksOf s) x ≡ At i) same (unfold taskAt in task-found s sound i (omega arith)) in
+          known i place
+          ∙ ap shown (standing-one (tasksOf s) (semsOf s) i (standingOf (tasksOf s) (semsOf s) i) r (standing-is (tasksOf s) (semsOf s) (chained s sound) i below) is)
+          ∙ sym e
 
   -- 26: no task runs exactly if none is ready
   ready-is : (now : Status) → (isReady now ≡ true) ↔ (now ≡ Ready)

@@ -9,5 +9,4 @@ pub mod PlayedCases
 pub mod Replay
 pub mod Shown
 pub mod ShutOut
-pub mod Tightness
 pub mod Undone

@@ -7,12 +7,15 @@ use Rattle.table.specs.Sums.{any}
 use Rattle.table.specs.Places.{firstPlace, taskPlace, semPlace}
 use Rattle.table.specs.WellFormed.{within, taskInRange, semInRange, taskBefore, semBefore, used}
 use Rattle.executive.specs.States.{tasksOf, semsOf}
-use Rattle.executive.specs.Waits.{taskAt, semAt, waitsFor, heldBy, holderOf, waitsOn}
-use Rattle.executive.specs.Standing.{
+use Rattle.waits.specs.Waits.{taskAt, semAt, waitsFor, heldBy, holderOf, waitsOn}
+use Rattle.waits.specs.Standing.{
   shownDeadline,
   ownOf,
   better,
   foundAnd,
+  isNone,
+  holdsIt,
+  closesRing,
   passes,
   reaches,
   preferred,
@@ -28,18 +31,16 @@ use Rattle.executive.specs.Standing.{
   numberAt,
 }
 use Rattle.executive.specs.Calls.{
-  withTask,
-  withSem,
+  withTasks,
+  withSems,
   withLast,
   nowDoes,
   nowHeld,
   moved,
-  isNone,
+  onTask,
   busy,
   untimely,
   noSemWait,
-  holdsIt,
-  closesRing,
   notHeld,
   releaseAt,
   takeOrWait,
@@ -59,5 +60,5 @@ use Rattle.theorems.specs.Histories.{called, after}
 use Rattle.theorems.specs.Cases.{loaded, runs, stepsOf, cases, All}
 
 pub p10-p12 : All (drop 8 cases)
-unfolding firstOf answered any firstPlace taskPlace semPlace within taskInRange semInRange taskBefore semBefore used tasksOf semsOf taskAt semAt waitsFor heldBy holderOf waitsOn shownDeadline ownOf better foundAnd passes reaches preferred bestAmong foundOr standingOf isIdle isReady readyAt waiterAt runningOf heirOf numberAt withTask withSem withLast nowDoes nowHeld moved isNone busy untimely noSemWait holdsIt closesRing notHeld releaseAt takeOrWait acquireAt handOver giveAt releaseOf withdrawOf acquireOf giveOf valueOf bytesOf readAt allAre taskIn semIn unlessOutOfRange taskDecoded semDecoded decoded encodeTask encodeSem freshTable taken startFront frontAfter usedAfter refusedAs orderBroken numberTwice tooMany refusalOf stateOf acceptedLoad finishedLoad loadFrom loadRecords recordsIn badLength loadOf flat encoded called after loaded runs stepsOf cases
+unfolding firstOf answered any firstPlace taskPlace semPlace within taskInRange semInRange taskBefore semBefore used tasksOf semsOf taskAt semAt waitsFor heldBy holderOf waitsOn shownDeadline ownOf better foundAnd passes reaches preferred bestAmong foundOr standingOf isIdle isReady readyAt waiterAt runningOf heirOf numberAt withTasks withSems withLast nowDoes nowHeld moved onTask isNone busy untimely noSemWait holdsIt closesRing notHeld releaseAt takeOrWait acquireAt handOver giveAt releaseOf withdrawOf acquireOf giveOf valueOf bytesOf readAt allAre taskIn semIn unlessOutOfRange taskDecoded semDecoded decoded encodeTask encodeSem freshTable taken startFront frontAfter usedAfter refusedAs orderBroken numberTwice tooMany refusalOf stateOf acceptedLoad finishedLoad loadFrom loadRecords recordsIn badLength loadOf flat encoded called after loaded runs stepsOf cases
 p10-p12 = (refl, ((refl, refl), (refl, tt)))

@@ -13,8 +13,11 @@ use Rattle.table.proofs.RefusalLaws.{answered-refused}
 use Rattle.executive.specs.declared.state.State.{State}
 use Rattle.executive.specs.States.{tasksOf, semsOf}
 use Rattle.executive.specs.Sound.{Sound}
-use Rattle.executive.specs.Standing.{standingOf, runningOf}
-use Rattle.executive.specs.Reaches.{IsStanding}
+use Rattle.table.specs.declared.Found.{Found}
+use Rattle.table.specs.declared.Found.the-variants.{At, Nothing}
+use Rattle.waits.specs.declared.standing.Rank.{Rank}
+use Rattle.waits.specs.Standing.{standingOf, runningOf, numberAt}
+use Rattle.waits.specs.Reaches.{IsStanding}
 use Rattle.executive.proofs.SoundCalls.{
   release-sound,
   signal-sound,
@@ -24,7 +27,8 @@ use Rattle.executive.proofs.SoundCalls.{
   complete-sound,
   block-sound,
 }
-use Rattle.executive.proofs.DispatchLaws as Dispatch
+use Rattle.executive.proofs.SoundLaws.{tasks-length, chained, ranges, runs-below}
+use Rattle.waits.proofs.DispatchLaws as Dispatch
 use Rattle.judging.proofs.PassLaws as Pass
 use Rattle.image.specs.Loading.{badLength}
 use Rattle.image.specs.Writing.{encoded, tableOf, badBuffer, writeNumber, written}
@@ -136,26 +140,57 @@ pub passes-exactly : Demands.PassesExactly
 passes-exactly s h some = Pass.passes-exactly (tasksOf s) (semsOf s) (s .board) (s .present) (comes-well-formed s h some)
 
 pub runs-best : Demands.RunsBest
-runs-best s h i e = Dispatch.runs-best s (comes-sound s h) i e
+runs-best s h i e =
+    let sound = comes-sound s h in
+    let l = tasks-length s sound in
+    let b = Dispatch.runs-is (tasksOf s) (semsOf s) i e in
+    (runs-below s sound i e, b .passes, λ j k r. b .best j (omega arith) r)
+
+-- the answer of running is 0 exactly if nobody runs: a task's number is not 0
+runs-zero : (s : State) → Sound s → (f : Found) → runningOf (tasksOf s) (semsOf s) ≡ f
+    → (numberAt (tasksOf s) (runningOf (tasksOf s) (semsOf s)) ≡ 0) ↔ (runningOf (tasksOf s) (semsOf s) ≡ Nothing)
+unfolding numberAt
+runs-zero s sound Nothing q = (λ e. q, λ e. rw q)
+runs-zero s sound (At i) q = (
+  λ e.
+      let r = ranges s sound i (runs-below s sound i q) .numberLeast in
+      let n = sym (ap (numberAt (tasksOf s)) q) ∙ e in
+      absurd (omega arith),
+  λ e. let z : _≡_ {A = ℕ} 0 1 = cc in absurd (omega arith),
+)
 
 pub runs-none : Demands.RunsNone
 runs-none s h =
-    let sound = comes-sound s h in (
-      λ e. Dispatch.runs-none s sound (Dispatch.runs-zero s sound e),
-      λ w. Dispatch.zero-runs s sound (Dispatch.none-runs s sound w),
+    let sound = comes-sound s h in
+    let l = tasks-length s sound in
+    let zero = runs-zero s sound (runningOf (tasksOf s) (semsOf s)) refl in (
+      λ e j k. Dispatch.runs-none (tasksOf s) (semsOf s) (zero .0 e) j (omega arith),
+      λ w. zero .1 (Dispatch.none-runs (tasksOf s) (semsOf s) (λ j k. w j (omega arith))),
     )
 
 pub replayed : Demands.Replayed
 replayed s calls = (Replay.replay-state s calls, Replay.replay-answers s calls)
 
 pub afresh : Demands.Afresh
-afresh s h calls i below =
-    subst (λ (r : State). IsStanding (tasksOf (after s (acceptedOf s calls))) (semsOf (after s (acceptedOf s calls))) i (standingOf (tasksOf r) (semsOf r) i))
-    (Replay.replay-state s calls)
-    (Dispatch.standing-is (after s (acceptedOf s calls)) (comes-sound (after s (acceptedOf s calls)) (comes-after s h (acceptedOf s calls))) i below)
+afresh s h calls i below r =
+    let t = after s (acceptedOf s calls) in
+    let sound = comes-sound t (comes-after s h (acceptedOf s calls)) in
+    let l = tasks-length t sound in
+    let same : standingOf (tasksOf t) (semsOf t) i ≡ standingOf (tasksOf (after s calls)) (semsOf (after s calls)) i =
+    ap (λ (x : State). standingOf (tasksOf x) (semsOf x) i) (Replay.replay-state s calls) in
+    let is = Dispatch.standing-is (tasksOf t) (semsOf t) (chained t sound) i (omega arith) in (
+      λ w. Dispatch.standing-one (tasksOf t) (semsOf t) i r (standingOf (tasksOf t) (semsOf t) i) w is ∙ same,
+      λ e. subst (λ (x : Rank). IsStanding (tasksOf t) (semsOf t) i x) (same ∙ sym e) is,
+    )
+
+pub standing-when : Demands.StandingWhen
+standing-when s h number a = Exactly.standing-when s (comes-sound s h) number a
 
 pub nobody-waits : Demands.NobodyWaits
-nobody-waits s h i below none = Dispatch.nobody-waits s (comes-sound s h) i below none
+nobody-waits s h i below none =
+    let sound = comes-sound s h in
+    let l = tasks-length s sound in
+    Dispatch.nobody-waits (tasksOf s) (semsOf s) (chained s sound) i (omega arith) (λ j k e. none j (omega arith) e)
 
 pub undone : Demands.Undone
 undone s h sem n calls pulses = Undo.undone s (comes-sound s h) sem n calls pulses

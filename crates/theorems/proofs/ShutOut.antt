@@ -22,12 +22,14 @@ use Rattle.table.specs.WellFormed.{within, taskInRange, semInRange, boardInRang
 use Rattle.executive.specs.declared.state.State.{State}
 use Rattle.executive.specs.declared.standing.Stands.{Stands}
 use Rattle.executive.specs.States.{tasksOf, semsOf}
-use Rattle.executive.specs.Waits.{taskAt, semAt, waitsFor, heldBy, holderOf, waitsOn}
-use Rattle.executive.specs.Standing.{
+use Rattle.waits.specs.Waits.{taskAt, semAt, waitsFor, heldBy, holderOf, waitsOn}
+use Rattle.waits.specs.Standing.{
   shownDeadline,
   ownOf,
   better,
   foundAnd,
+  isNone,
+  closesRing,
   passes,
   reaches,
   preferred,
@@ -41,16 +43,15 @@ use Rattle.executive.specs.Standing.{
   numberAt,
 }
 use Rattle.executive.specs.Calls.{
-  withTask,
-  withSem,
+  withTasks,
+  withSems,
   withLast,
   nowDoes,
   nowHeld,
   moved,
-  isNone,
+  onTask,
   busy,
   untimely,
-  closesRing,
   releaseAt,
   takeOrWait,
   acquireAt,
@@ -142,7 +143,7 @@ computed : (runs (loaded three) ≡ 0)
     × ((taskAt (tasksOf now) 2) .number ≡ 11)
     × (standingAfter three waited 11 ≡ fp 1)
     × (standingAfter three (waited ++ (acquire 1 ∷ [])) 11 ≡ fp 0)
-unfolding firstOf answered any firstPlace taskPlace semPlace within taskInRange semInRange taskBefore semBefore used tasksOf semsOf taskAt semAt waitsFor heldBy holderOf waitsOn shownDeadline ownOf better foundAnd passes reaches preferred bestAmong foundOr standingOf isIdle isReady readyAt runningOf numberAt withTask withSem withLast nowDoes nowHeld moved isNone busy untimely closesRing releaseAt takeOrWait acquireAt releaseOf acquireOf valueOf bytesOf readAt allAre taskIn semIn unlessOutOfRange taskDecoded semDecoded decoded encodeTask encodeSem freshTable taken startFront frontAfter usedAfter refusedAs orderBroken numberTwice tooMany refusalOf stateOf acceptedLoad finishedLoad loadFrom loadRecords recordsIn badLength loadOf flat encoded called after loaded runs shown standsOf standingAfter
+unfolding firstOf answered any firstPlace taskPlace semPlace within taskInRange semInRange taskBefore semBefore used tasksOf semsOf taskAt semAt waitsFor heldBy holderOf waitsOn shownDeadline ownOf better foundAnd passes reaches preferred bestAmong foundOr standingOf isIdle isReady readyAt runningOf numberAt withTasks withSems withLast nowDoes nowHeld moved onTask isNone busy untimely closesRing releaseAt takeOrWait acquireAt releaseOf acquireOf valueOf bytesOf readAt allAre taskIn semIn unlessOutOfRange taskDecoded semDecoded decoded encodeTask encodeSem freshTable taken startFront frontAfter usedAfter refusedAs orderBroken numberTwice tooMany refusalOf stateOf acceptedLoad finishedLoad loadFrom loadRecords recordsIn badLength loadOf flat encoded called after loaded runs shown standsOf standingAfter
 computed = (refl, refl, refl, refl, refl, refl, refl)
 
 pub state-moves : NeverMoves called → ⊥

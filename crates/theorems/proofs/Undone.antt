@@ -21,55 +21,53 @@ use Rattle.table.specs.declared.Found.the-variants.{At, Nothing}
 use Rattle.table.specs.Entries.{blankTask, spanOf, withStatus, withDeadline}
 use Rattle.table.specs.Refusals.{firstOf, answered}
 use Rattle.table.specs.Places.{firstPlace, taskPlace, semPlace}
-use Rattle.table.proofs.RefusalLaws.{answered-refused, answered-done, firstOf-here, firstOf-past, firstOf-none}
+use Rattle.table.proofs.RefusalLaws.{firstOf-past, firstOf-none}
 use Rattle.table.proofs.PlaceLaws.{search-set, found}
 use Rattle.executive.specs.declared.state.State.{State}
 use Rattle.executive.specs.declared.calls.Moved.{Moved}
 use Rattle.executive.specs.States.{tasksOf, semsOf}
 use Rattle.executive.specs.Sound.{Sized, Sound}
-use Rattle.executive.specs.Waits.{taskAt, semAt, waitsFor}
-use Rattle.executive.specs.Standing.{foundAnd, foundOr, isIdle, isReady, isEvent, readyAt, numberAt, standingOf, runningOf}
-use Rattle.executive.specs.Calls.{withTask, withLast, nowDoes, moved, isNone, busy, untimely, noEventWait, noSemWait, closesRing, releaseAt, takeOrWait, acquireAt, releaseOf, signalOf, withdrawOf, acquireOf}
-use Rattle.executive.proofs.RankLaws.{best-is}
+use Rattle.waits.specs.Waits.{taskAt, semAt, waitsFor}
+use Rattle.waits.specs.Standing.{foundAnd, foundOr, isNone, closesRing, isIdle, isReady, isEvent, readyAt, numberAt, standingOf, runningOf}
+use Rattle.executive.specs.Calls.{withTasks, withTask, withLast, nowDoes, moved, onTask, busy, untimely, noEventWait, noSemWait, releaseAt, takeOrWait, acquireAt, releaseOf, signalOf, withdrawOf, acquireOf}
+use Rattle.waits.proofs.RankLaws.{best-is}
+use Rattle.executive.proofs.CallLaws.{on-none, on-refused, on-done}
 use Rattle.executive.proofs.LookupLaws.{tasks-count, task-found}
 use Rattle.theorems.specs.Histories.{Call, release, signal, withdraw, acquire, called, after, answersTo}
 use Rattle.theorems.specs.Undo.{Pulse, released, signalled, Pulses, none, more}
 
--- a pulse: where the number is unknown 20, else what a test of the entry says, else the entry is replaced and the time set
-abbrev pulseAt : State → Found → (Task → ℕ) → (Task → Task) → ℕ → Moved
-pulseAt s Nothing test next last = moved s 20
-pulseAt s (At j) test next last =
-    answered (test (taskAt (tasksOf s) j)) (moved s) (moved (withLast (withTask s j (next (taskAt (tasksOf s) j))) last) 0)
+-- a call that names a task, puts another entry at its place and sets the time of the last release
+abbrev Pulsed : ℕ → (Task → List (ℕ × Bool)) → (Task → Task) → ℕ → State → Moved
+Pulsed number refusals next last s = onTask s number refusals (λ j. withLast (withTask s j (next (taskAt (tasksOf s) j))) last)
 
-releaseTest : ℕ → ℕ → Task → ℕ
-releaseTest last time t = firstOf ((23, not (isIdle (t .status))) ∷ (22, untimely last time) ∷ [])
+releaseTests : ℕ → ℕ → Task → List (ℕ × Bool)
+releaseTests last time t = (23, busy t) ∷ (22, untimely last time) ∷ []
 
 releaseNext : ℕ → Task → Task
 releaseNext time t = withStatus (withDeadline t (time + spanOf t)) Ready
 
-signalTest : Task → ℕ
-signalTest t = firstOf ((24, not (isEvent (t .status))) ∷ [])
+signalTests : Task → List (ℕ × Bool)
+signalTests t = (24, noEventWait t) ∷ []
 
 signalNext : Task → Task
 signalNext t = withStatus t Ready
 
-release-pulse : (s : State) (number time : ℕ) (at : Found) → taskPlace (tasksOf s) number ≡ at
-    → releaseOf s number time ≡ pulseAt s at (releaseTest (s .last) time) (releaseNext time) time
-unfolding releaseOf releaseTest releaseNext releaseAt firstOf answered isNone foundAnd foundOr busy
-release-pulse s number time Nothing e = rw e
-release-pulse s number time (At j) e = rw e
+-- a release and a signal are such calls
+release-pulse : (s : State) (number time : ℕ) → releaseOf s number time ≡ Pulsed number (releaseTests (s .last) time) (releaseNext time) time s
+unfolding releaseOf releaseTests releaseNext releaseAt
+release-pulse s number time = refl
 
-signal-pulse : (s : State) (number : ℕ) (at : Found) → taskPlace (tasksOf s) number ≡ at
-    → signalOf s number ≡ pulseAt s at signalTest signalNext (s .last)
-unfolding signalOf signalTest signalNext nowDoes firstOf answered isNone foundAnd foundOr noEventWait withLast withTask
-signal-pulse s number Nothing e = rw e
-signal-pulse s number (At j) e = rw e
+signal-pulse : (s : State) (number : ℕ) → signalOf s number ≡ Pulsed number signalTests signalNext (s .last) s
+unfolding signalOf signalTests signalNext nowDoes withLast withTasks
+signal-pulse s number = refl
 
 -- the outcomes of a withdrawal that is accepted, and of an acquire
 withdraw-found : (s : State) (number i : ℕ) (u : Task) → taskPlace (tasksOf s) number ≡ At i → taskAt (tasksOf s) i ≡ u
     → isNone (waitsFor (u .status)) ≡ false → withdrawOf s number ≡ moved (withTask s i (withStatus u Ready)) 0
-unfolding withdrawOf firstOf answered isNone foundAnd foundOr noSemWait nowDoes
-withdraw-found s number i u place here waits = rw (place, here, waits)
+unfolding withdrawOf nowDoes noSemWait
+withdraw-found s number i u place here waits =
+    on-done s number (λ t. (25, noSemWait t) ∷ []) (λ j. nowDoes s j Ready) i place u here (firstOf-past 25 (noSemWait u) [] waits ∙ firstOf-none)
+    ∙ ap (λ (t : Task). moved (withTask s i (withStatus t Ready)) 0) here
 
 nobody : (s : State) (sem : ℕ) → runningOf (tasksOf s) (semsOf s) ≡ Nothing → acquireOf s sem ≡ moved s 26
 unfolding acquireOf firstOf answered isNone foundAnd foundOr
@@ -91,7 +89,7 @@ taken s sem i k r p c = rw (r, p, c)
 
 -- the tasks after one entry is replaced
 tasks-with : (s : State) (i : ℕ) (t : Task) → i < s .n → tasksOf (withTask s i t) ≡ set (tasksOf s) i t
-unfolding tasksOf withTask
+unfolding tasksOf withTasks
 tasks-with s i t h = take-set-lt (s .n) (s .tasks) i t h
 
 tasks-with-last : (s : State) (l : ℕ) → tasksOf (withLast s l) ≡ tasksOf s
@@ -129,7 +127,7 @@ module _ (i : ℕ) (t w : Task) (same : w .number ≡ t .number) where
   -- what stays so after an entry other than i is replaced by one of the same number, and after the time is set
   holds-on : (s : State) (j : ℕ) (u : Task) (last : ℕ) → Holds s → j < s .n → i ≢ j → u .number ≡ (taskAt (tasksOf s) j) .number
       → Holds (withLast (withTask s j u) last)
-  unfolding withLast withTask
+  unfolding withLast withTasks
   holds-on s j u last h k ne e =
       record {
         inside = h .inside;
@@ -143,7 +141,7 @@ module _ (i : ℕ) (t w : Task) (same : w .number ≡ t .number) where
   -- two entries replaced, in either order
   swapped : (s : State) (j : ℕ) (u : Task) (last : ℕ) → i ≢ j
       → withLast (withTask (withTask s i w) j u) last ≡ withTask (withLast (withTask s j u) last) i w
-  unfolding withLast withTask
+  unfolding withLast withTasks
   swapped s j u last ne =
       λ x.
       record {
@@ -156,66 +154,81 @@ module _ (i : ℕ) (t w : Task) (same : w .number ≡ t .number) where
         present = s .present;
       }
 
-  module _ (test : Task → ℕ) (next : Task → Task) (keeps : (u : Task) → (next u) .number ≡ u .number) (refused : test t ≢ 0) (alike : test w ≡ test t) where
-    -- what a pulse does to the waiting state is what it does to the ready one
-    abbrev Follows : State → ℕ → Found → Type 0
-    Follows s last at =
-        (pulseAt (withTask s i w) at test next last
-        ≡ moved (withTask ((pulseAt s at test next last) .state) i w) ((pulseAt s at test next last) .answer))
-        × Holds ((pulseAt s at test next last) .state)
+  -- a call that names a task and refuses both the ready and the waiting one with the same number
+  module _ (number : ℕ) (refusals : Task → List (ℕ × Bool)) (next : Task → Task) (keeps : (u : Task) → (next u) .number ≡ u .number)
+      (refused : firstOf (refusals t) ≢ 0) (alike : firstOf (refusals w) ≡ firstOf (refusals t)) where
+    done : ℕ → State → ℕ → State
+    done last s j = withLast (withTask s j (next (taskAt (tasksOf s) j))) last
 
-    pulse-refused : (s : State) (j last : ℕ) (u : Task) (k : ℕ) → taskAt (tasksOf s) j ≡ u → test u ≡ k → k ≢ 0
-        → pulseAt s (At j) test next last ≡ moved s k
-    pulse-refused s j last u k here e ne = rw (here, e) (answered-refused k (moved s) _ ne)
-
-    pulse-done : (s : State) (j last : ℕ) (u : Task) → taskAt (tasksOf s) j ≡ u → test u ≡ 0
-        → pulseAt s (At j) test next last ≡ moved (withLast (withTask s j (next u)) last) 0
-    pulse-done s j last u here e = rw (here, e) (answered-done 0 (moved s) (moved (withLast (withTask s j (next u)) last) 0) refl)
+    -- what it does to the waiting state is what it does to the ready one
+    abbrev Follows : State → ℕ → Type 0
+    Follows s last =
+        let r = Pulsed number refusals next last s in
+        (Pulsed number refusals next last (withTask s i w) ≡ moved (withTask (r .state) i w) (r .answer)) × Holds (r .state)
 
     -- both sides known
-    follow : (s : State) (last : ℕ) (at : Found) (r : State) (k : ℕ) → pulseAt s at test next last ≡ moved r k
-        → pulseAt (withTask s i w) at test next last ≡ moved (withTask r i w) k → Holds r → Follows s last at
+    follow : (s : State) (last : ℕ) (r : State) (k : ℕ) → Pulsed number refusals next last s ≡ moved r k
+        → Pulsed number refusals next last (withTask s i w) ≡ moved (withTask r i w) k → Holds r → Follows s last
     unfolding moved
-    follow s last at r k p q h = (
+    follow s last r k p q h = (
       q ∙ sym (ap (λ (m : Moved). moved (withTask (m .state) i w) (m .answer)) p),
       subst (λ (m : Moved). Holds (m .state)) (sym p) h,
     )
 
-    follows-unknown : (s : State) (last : ℕ) → Holds s → Follows s last Nothing
-    follows-unknown s last h = follow s last Nothing s 20 refl refl h
+    follows-unknown : (s : State) (last : ℕ) → Holds s → taskPlace (tasksOf s) number ≡ Nothing → taskPlace (tasksOf (withTask s i w)) number ≡ Nothing
+        → Follows s last
+    unfolding done
+    follows-unknown s last h p q =
+        follow s last s 20 (on-none s number refusals (done last s) p) (on-none (withTask s i w) number refusals (done last (withTask s i w)) q) h
 
-    follows-self : (s : State) (last : ℕ) → Holds s → Follows s last (At i)
-    follows-self s last h =
-        let l = count s h in
-        let k = h .inside in
-        follow s last (At i) s (test t)
-        (pulse-refused s i last t (test t) (h .here) refl refused)
-        (pulse-refused (withTask s i w) i last w (test t) (at-same s i w (h .inside) (omega arith)) alike refused)
-        h
+    module _ (s : State) (last j : ℕ) (h : Holds s) (p : taskPlace (tasksOf s) number ≡ At j)
+        (q : taskPlace (tasksOf (withTask s i w)) number ≡ At j) where
+      follows-self : i ≡ j → Follows s last
+      unfolding done
+      follows-self e =
+          let l = count s h in
+          let k = h .inside in
+          follow s last s (firstOf (refusals t))
+          (on-refused s number refusals (done last s) i (p ∙ ap At (sym e)) t (h .here) (firstOf (refusals t)) refl refused)
+          (on-refused (withTask s i w) number refusals (done last (withTask s i w)) i (q ∙ ap At (sym e)) w (at-same s i w (h .inside) (omega arith))
+          (firstOf (refusals t)) alike refused)
+          h
 
-    follows-other : (s : State) (last j : ℕ) → Holds s → j < s .n → i ≢ j → (b : Bool) → eqb (test (taskAt (tasksOf s) j)) 0 ≡ b → Follows s last (At j)
-    follows-other s last j h k ne false e =
-        let u = taskAt (tasksOf s) j in
-        let no : test u ≢ 0 = eqb-false (test u) 0 e in
-        follow s last (At j) s (test u)
-        (pulse-refused s j last u (test u) refl refl no)
-        (pulse-refused (withTask s i w) j last u (test u) (at-other s i j w (h .inside) (λ q. ne (sym q))) refl no)
-        h
-    follows-other s last j h k ne true e =
-        let u = taskAt (tasksOf s) j in
-        let yes : test u ≡ 0 = eqb-true (test u) 0 e in
-        follow s last (At j) (withLast (withTask s j (next u)) last) 0
-        (pulse-done s j last u refl yes)
-        (pulse-done (withTask s i w) j last u (at-other s i j w (h .inside) (λ q. ne (sym q))) yes ∙ ap (λ (r : State). moved r 0) (swapped s j (next u) last ne))
-        (holds-on s j (next u) last h k ne (keeps u))
+      follows-other : j < s .n → i ≢ j → (b : Bool) → eqb (firstOf (refusals (taskAt (tasksOf s) j))) 0 ≡ b → Follows s last
+      unfolding done
+      follows-other k ne false e =
+          let u = taskAt (tasksOf s) j in
+          let no : firstOf (refusals u) ≢ 0 = eqb-false (firstOf (refusals u)) 0 e in
+          follow s last s (firstOf (refusals u))
+          (on-refused s number refusals (done last s) j p u refl (firstOf (refusals u)) refl no)
+          (on-refused (withTask s i w) number refusals (done last (withTask s i w)) j q u (at-other s i j w (h .inside) (λ x. ne (sym x)))
+          (firstOf (refusals u)) refl no)
+          h
+      follows-other k ne true e =
+          let u = taskAt (tasksOf s) j in
+          let yes : firstOf (refusals u) ≡ 0 = eqb-true (firstOf (refusals u)) 0 e in
+          let there = at-other s i j w (h .inside) (λ x. ne (sym x)) in
+          follow s last (withLast (withTask s j (next u)) last) 0
+          (on-done s number refusals (done last s) j p u refl yes)
+          (on-done (withTask s i w) number refusals (done last (withTask s i w)) j q u there yes
+          ∙ ap (λ (x : Task). moved (withLast (withTask (withTask s i w) j (next x)) last) 0) there
+          ∙ ap (λ (r : State). moved r 0) (swapped s j (next u) last ne))
+          (holds-on s j (next u) last h k ne (keeps u))
 
-    follows : (s : State) (last : ℕ) (at : Found) → Holds s → ((j : ℕ) → at ≡ At j → j < s .n) → Follows s last at
-    follows s last Nothing h inside = follows-unknown s last h
-    follows s last (At j) h inside = go (eqb i j) refl
+    follows : (s : State) (last : ℕ) → Holds s → ((j : ℕ) → taskPlace (tasksOf s) number ≡ At j → j < s .n) → Follows s last
+    follows s last h inside = go (taskPlace (tasksOf s) number) refl
       where
-        go : (b : Bool) → eqb i j ≡ b → Follows s last (At j)
-        go true e = subst (λ (k : ℕ). Follows s last (At k)) (eqb-true i j e) (follows-self s last h)
-        go false e = follows-other s last j h (inside j refl) (eqb-false i j e) (eqb (test (taskAt (tasksOf s) j)) 0) refl
+        alike-placed : taskPlace (tasksOf (withTask s i w)) number ≡ taskPlace (tasksOf s) number
+        alike-placed = place-with s i w number (h .inside) (same ∙ ap (λ (u : Task). u .number) (sym (h .here)))
+
+        at : (j : ℕ) → taskPlace (tasksOf s) number ≡ At j → (b : Bool) → eqb i j ≡ b → Follows s last
+        at j p true e = follows-self s last j h p (alike-placed ∙ p) (eqb-true i j e)
+        at j p false e =
+            follows-other s last j h p (alike-placed ∙ p) (inside j p) (eqb-false i j e) (eqb (firstOf (refusals (taskAt (tasksOf s) j))) 0) refl
+
+        go : (f : Found) → taskPlace (tasksOf s) number ≡ f → Follows s last
+        go Nothing p = follows-unknown s last h p (alike-placed ∙ p)
+        go (At j) p = at j p (eqb i j) refl
 
 -- the same task, waiting for the semaphore at k
 waiting : Task → ℕ → Task
@@ -223,20 +236,20 @@ waiting t k = withStatus t (Waits k)
 
 -- a task that is ready is neither released nor signalled, and no more is it while it waits
 module _ (t : Task) (k : ℕ) (ready : t .status ≡ Ready) where
-  ready-release : (last time : ℕ) → releaseTest last time t ≡ 23
-  unfolding releaseTest firstOf isIdle
+  ready-release : (last time : ℕ) → firstOf (releaseTests last time t) ≡ 23
+  unfolding releaseTests firstOf busy isIdle
   ready-release last time = rw ready
 
-  waiting-release : (last time : ℕ) → releaseTest last time (waiting t k) ≡ 23
-  unfolding releaseTest firstOf isIdle waiting
+  waiting-release : (last time : ℕ) → firstOf (releaseTests last time (waiting t k)) ≡ 23
+  unfolding releaseTests firstOf busy isIdle waiting
   waiting-release last time = refl
 
-  ready-signal : signalTest t ≡ 24
-  unfolding signalTest firstOf isEvent
+  ready-signal : firstOf (signalTests t) ≡ 24
+  unfolding signalTests firstOf noEventWait isEvent
   ready-signal = rw ready
 
-  waiting-signal : signalTest (waiting t k) ≡ 24
-  unfolding signalTest firstOf isEvent waiting
+  waiting-signal : firstOf (signalTests (waiting t k)) ≡ 24
+  unfolding signalTests firstOf noEventWait isEvent waiting
   waiting-signal = refl
 
   same-number : (waiting t k) .number ≡ t .number
@@ -294,24 +307,22 @@ module _ (i : ℕ) (t : Task) (k : ℕ) (ready : t .status ≡ Ready) where
   )
 
   step : (s : State) → Same s → (c : Call) → Pulse c → Both s c
-  unfolding called apart withTask releaseNext signalNext
+  unfolding called apart withTasks releaseNext signalNext
   step s h (release number time) (released) =
-      let at = taskPlace (tasksOf s) number in
-      let r = follows i t (waiting t k) (same-number t k ready) (releaseTest (s .last) time) (releaseNext time) (λ u. refl)
+      let r = follows i t (waiting t k) (same-number t k ready) number (releaseTests (s .last) time) (releaseNext time) (λ u. refl)
       (λ z. let a = ready-release t k ready (s .last) time in omega arith)
-      (waiting-release t k ready (s .last) time ∙ sym (ready-release t k ready (s .last) time)) s time at h (found-inside s h number) in
-      joined s (releaseOf s number time) (releaseOf (apart s) number time) (pulseAt s at (releaseTest (s .last) time) (releaseNext time) time)
-      (release-pulse s number time at refl)
-      (release-pulse (apart s) number time at (apart-place s h number) ∙ r .0)
+      (waiting-release t k ready (s .last) time ∙ sym (ready-release t k ready (s .last) time)) s time h (found-inside s h number) in
+      joined s (releaseOf s number time) (releaseOf (apart s) number time) (Pulsed number (releaseTests (s .last) time) (releaseNext time) time s)
+      (release-pulse s number time)
+      (release-pulse (apart s) number time ∙ r .0)
       (r .1)
   step s h (signal number) (signalled) =
-      let at = taskPlace (tasksOf s) number in
-      let r = follows i t (waiting t k) (same-number t k ready) signalTest signalNext (λ u. refl)
+      let r = follows i t (waiting t k) (same-number t k ready) number signalTests signalNext (λ u. refl)
       (λ z. let a = ready-signal t k ready in omega arith)
-      (waiting-signal t k ready ∙ sym (ready-signal t k ready)) s (s .last) at h (found-inside s h number) in
-      joined s (signalOf s number) (signalOf (apart s) number) (pulseAt s at signalTest signalNext (s .last))
-      (signal-pulse s number at refl)
-      (signal-pulse (apart s) number at (apart-place s h number) ∙ r .0)
+      (waiting-signal t k ready ∙ sym (ready-signal t k ready)) s (s .last) h (found-inside s h number) in
+      joined s (signalOf s number) (signalOf (apart s) number) (Pulsed number signalTests signalNext (s .last) s)
+      (signal-pulse s number)
+      (signal-pulse (apart s) number ∙ r .0)
       (r .1)
 
   -- any list of pulses
@@ -329,7 +340,7 @@ module _ (i : ℕ) (t : Task) (k : ℕ) (ready : t .status ≡ Ready) where
 
   -- the withdrawal gives the very state back
   rejoin : (s : State) → Same s → withTask (apart s) i t ≡ s
-  unfolding apart withTask taskAt tasksOf
+  unfolding apart withTasks taskAt tasksOf
   rejoin s h =
       let there : getD (s .tasks) i blankTask ≡ t = sym (getD-take (s .n) (s .tasks) i blankTask (h .inside)) ∙ h .here in
       λ x.

@@ -12,7 +12,7 @@ use Rattle.table.specs.declared.Holder.the-variants.{Free}
 use Rattle.table.specs.Entries.{builtIn, noFigures}
 use Rattle.executive.specs.declared.state.State.{State}
 use Rattle.executive.specs.States.{tasksOf, semsOf}
-use Rattle.executive.specs.Standing.{runningOf, numberAt}
+use Rattle.waits.specs.Standing.{runningOf, numberAt}
 use Rattle.image.specs.Loading.{Table, loadOf}
 use Rattle.image.specs.Writing.{encoded}
 use Rattle.charges.specs.Charges.{chargeOf}

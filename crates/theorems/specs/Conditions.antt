@@ -11,9 +11,9 @@ use Rattle.table.specs.declared.Holder.the-variants.{Free, By}
 use Rattle.table.specs.declared.Found.the-variants.{At}
 use Rattle.executive.specs.declared.state.State.{State}
 use Rattle.executive.specs.States.{tasksOf, semsOf}
-use Rattle.executive.specs.Waits.{taskAt, semAt}
-use Rattle.executive.specs.Standing.{runningOf}
-use Rattle.executive.specs.Reaches.{Reaches}
+use Rattle.waits.specs.Waits.{taskAt, semAt}
+use Rattle.waits.specs.Standing.{runningOf}
+use Rattle.waits.specs.Reaches.{Reaches}
 use Rattle.theorems.specs.Histories.{Call, release, signal, withdraw, acquire, give, complete, block}
 
 -- 20: unknown task

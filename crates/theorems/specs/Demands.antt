@@ -10,13 +10,15 @@ use Rattle.table.specs.declared.Task.{Task}
 use Rattle.table.specs.declared.Found.the-variants.{At, Nothing}
 use Rattle.table.specs.WellFormed.{WellFormed}
 use Rattle.records.specs.Records.{Bytes}
+use Rattle.waits.specs.declared.standing.Rank.{Rank}
 use Rattle.executive.specs.declared.state.State.{State}
+use Rattle.executive.specs.declared.standing.Stands.{Stands}
 use Rattle.executive.specs.States.{tasksOf, semsOf, emptyState}
 use Rattle.executive.specs.Sound.{Sound}
-use Rattle.executive.specs.Waits.{waitsOn}
-use Rattle.executive.specs.Standing.{ownOf, better, standingOf, readyAt, runningOf, numberAt}
-use Rattle.executive.specs.Reaches.{IsStanding}
-use Rattle.executive.specs.Calls.{moved}
+use Rattle.waits.specs.Waits.{waitsOn}
+use Rattle.waits.specs.Standing.{ownOf, better, standingOf, readyAt, runningOf, numberAt}
+use Rattle.waits.specs.Reaches.{IsStanding}
+use Rattle.executive.specs.Calls.{moved, standsOf}
 use Rattle.judging.specs.Verdicts.{verdictOf}
 use Rattle.judging.specs.Passes.{Passes}
 use Rattle.image.specs.Loading.{loadOf, acceptedLoad}
@@ -38,6 +40,7 @@ use Rattle.theorems.specs.Histories.{
   Among,
 }
 use Rattle.theorems.specs.Loads.{GivenFor}
+use Rattle.theorems.specs.Standings.{StandingAnswer}
 use Rattle.theorems.specs.Undo.{Pulses}
 use Rattle.theorems.specs.Verdicts.{judgeConditions}
 use Rattle.theorems.specs.When.{FirstThat}
@@ -127,12 +130,17 @@ Replayed =
     (s : State) (calls : List Call)
     → (after s (acceptedOf s calls) ≡ after s calls) × (answersTo s (acceptedOf s calls) ≡ acceptedNumbers (answersTo s calls))
 
--- and there every task's standing is the one of 01, worked out afresh: the best of its own and those of all that wait for it, directly or
--- through others; it is the only one
+-- and there every task's standing is the one of 01, worked out afresh, and no other: the best of its own and those of all that wait for it,
+-- directly or through others
 abbrev pub Afresh : Type 0
 Afresh =
     (s : State) → Comes s → (calls : List Call) → let t = after s (acceptedOf s calls) in (i : ℕ) → i < t .n
-    → IsStanding (tasksOf t) (semsOf t) i (standingOf (tasksOf (after s calls)) (semsOf (after s calls)) i)
+    → (r : Rank) → IsStanding (tasksOf t) (semsOf t) i r ↔ (r ≡ standingOf (tasksOf (after s calls)) (semsOf (after s calls)) i)
+
+-- the answer to the standing of a number is 20 and zeros exactly if no task has it, else 0 with the queue, deadline and position of that task's
+-- standing
+abbrev pub StandingWhen : Type 0
+StandingWhen = (s : State) → Comes s → (number : ℕ) (a : Stands) → (standsOf s number ≡ a) ↔ StandingAnswer s number a
 
 -- a task on which nobody waits has its own standing back
 abbrev pub NobodyWaits : Type 0

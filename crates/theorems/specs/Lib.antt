@@ -6,7 +6,7 @@ pub mod Demands
 pub mod Histories
 pub mod Loads
 pub mod StandIns
-pub mod Tight
+pub mod Standings
 pub mod Undo
 pub mod Verdicts
 pub mod When

@@ -11,7 +11,7 @@ use Rattle.executive.specs.declared.state.State.{State}
 use Rattle.executive.specs.declared.calls.Moved.{Moved}
 use Rattle.executive.specs.declared.standing.Stands.{Stands}
 use Rattle.executive.specs.States.{tasksOf, semsOf}
-use Rattle.executive.specs.Waits.{taskAt, holderOf, waitsOn}
+use Rattle.waits.specs.Waits.{taskAt, holderOf, waitsOn}
 use Rattle.executive.specs.Calls.{standsOf}
 use Rattle.image.specs.declared.load.Loaded.{Loaded}
 use Rattle.image.specs.Loading.{Table}

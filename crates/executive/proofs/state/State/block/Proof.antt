@@ -1,4 +1,4 @@
--- `State::block` meets its contract: the running task by the scan, then the entry anew.
+-- `State::block` meets its contract: the task that runs, then its entry anew.
 -- Assumes nothing.
 use Prim.Native.Nat.{_<_}
 use mathlib.Core.Path.{_≡_, refl, sym, ap, _∙_}
@@ -7,39 +7,39 @@ use native.Mathlib.Omega.{arith}
 use borrow.Author.Tests.{eqb-false}
 use borrow.Author.Needs.{needs}
 use Rattle.table.specs.declared.Task.{Task}
+use Rattle.table.specs.declared.Status.the-variants.{Event}
+use Rattle.table.specs.declared.Found.the-variants.{At, Nothing}
 use Rattle.table.specs.Entries.{withStatus}
 use Rattle.table.proofs.RefusalLaws.{firstOf-none}
-use Rattle.table.specs.declared.Status.the-variants.{Event}
+use Rattle.waits.specs.Standing.{runningOf}
 use Rattle.executive.specs.States.{tasksOf, semsOf}
-use Rattle.executive.specs.Standing.{runningOf}
-use Rattle.executive.specs.Calls.{blockOf, nowDoes, moved, withTask}
-use Rattle.executive.proofs.CallLaws.{call-none, call-done, task-at}
-use Rattle.executive.proofs.RunLaws.{scanned-runs, runs-below}
+use Rattle.executive.specs.Calls.{blockOf, nowDoes, moved, withTask, withTasks}
+use Rattle.executive.proofs.SoundLaws.{used, task-at, runs-below}
+use Rattle.executive.proofs.CallLaws.{call-none, call-done}
 use Rattle.executive.proofs.state.State.block.Statement.{statement}
 use Rattle.executive.proofs.state.State.block.Tie as tie
 
-scan-requires : tie.Need-scan-requires
-scan-requires c κs = search needs
-
-met-at-requires : tie.Need-met-at-requires
-met-at-requires c κs = search needs
+running-requires : tie.Need-running-requires
+running-requires c κs = used (c .before .before .args .t1) (c .before .before .pre)
 
 enum-known-runs : tie.Need-enum-known-runs
 enum-known-runs c = search needs
 
--- the task that the scan met is the running one
-run : (c : tie.After-met-at) → c .met-at .result ≡ runningOf (tasksOf (c .before .before .args .t1)) (semsOf (c .before .before .args .t1))
-run c =
-    scanned-runs (c .before .before .args .t1) (c .before .before .pre) (c .before .scan .result) (c .met-at .result) (c .before .scan .ensures)
-    (c .met-at .ensures)
+-- the task that runs
+runs : (c : tie.After-known-told)
+    → runningOf (tasksOf (c .before .before .before .before .before .before .args .t1)) (semsOf (c .before .before .before .before .before .before .args .t1)) ≡ At (c .before .runs .given .0 .0)
+unfolding tasksOf semsOf
+runs c = sym (c .before .before .before .running .ensures) ∙ c .before .runs .given .1
 
-below : (c : tie.After-known-told) → c .before .runs .given .0 .0 < c .before .before .before .before .before .args .t1 .n
-below c =
-    let b = c .before .before .before .before .before in
-    runs-below (b .args .t1) (b .pre) (c .before .runs .given .0 .0) (sym (run (c .before .before .before)) ∙ c .before .runs .given .1)
+below : (c : tie.After-known-told) → c .before .runs .given .0 .0 < c .before .before .before .before .before .before .args .t1 .n
+below c = runs-below (c .before .before .before .before .before .before .args .t1) (c .before .before .before .before .before .before .pre) (c .before .runs .given .0 .0) (runs c)
 
 fits : (c : tie.After-known-told) → c .before .runs .given .0 .0 < 64
-fits c = let h = below c in let z = c .before .before .before .before .before .pre .sized in omega arith
+fits c = let h = below c in let z = c .before .before .before .before .before .before .pre .sized in omega arith
+
+nobody : (c : tie.After-enum-told) → runningOf (tasksOf (c .before .before .before .before .before .args .t1)) (semsOf (c .before .before .before .before .before .args .t1)) ≡ Nothing
+unfolding tasksOf semsOf
+nobody c = sym (c .before .before .running .ensures) ∙ c .enum-told .given .1
 
 mul-t : tie.Need-mul-t
 mul-t c = omega (arith, fits c)
@@ -50,8 +50,8 @@ element-copy-out-t c = fits c
 with-status-requires : tie.Need-with-status-requires
 with-status-requires c κs = search needs
 
-mul-t10 : tie.Need-mul-t10
-mul-t10 c = omega (arith, fits (c .before .before))
+mul-t11 : tie.Need-mul-t11
+mul-t11 c = omega (arith, fits (c .before .before))
 
 element-set-from-self : tie.Need-element-set-from-self
 element-set-from-self c = fits (c .before .before)
@@ -60,33 +60,30 @@ enum-told : tie.Need-enum-told
 enum-told c = search needs
 
 returns : tie.Need-returns
-unfolding blockOf moved nowDoes withTask
-returns c = let s = c .before .before .before .before .before .before .before .args .t1 in
+unfolding blockOf moved nowDoes withTasks
+returns c =
+    let s = c .before .before .before .before .before .before .before .before .args .t1 in
     let i = c .before .before .before .runs .given .0 .0 in
     ap (λ (t : Task). moved (withTask s i t) 0)
     (c .with-status .ensures ∙ ap (λ (t : Task). withStatus t Event) (sym (task-at s i (below (c .before .before)))))
-    ∙ sym
-    (call-done 26 (λ i. []) (moved s) (λ i. moved (nowDoes s i Event) 0) (runningOf (tasksOf s) (semsOf s)) i
-    (sym (run (c .before .before .before .before .before)) ∙ c .before .before .before .runs .given .1) firstOf-none)
+    ∙ sym (call-done 26 (λ i. []) (moved s) (λ i. moved (nowDoes s i Event) 0) (runningOf (tasksOf s) (semsOf s)) i (runs (c .before .before)) firstOf-none)
 
 returns-2 : tie.Need-returns-2
 unfolding blockOf moved
-returns-2 c = let s = c .before .before .before .before .args .t1 in
-    sym
-    (call-none 26 (λ i. []) (moved s) (λ i. moved (nowDoes s i Event) 0) (runningOf (tasksOf s) (semsOf s))
-    (sym (run (c .before .before)) ∙ c .enum-told .given .1) (eqb-false 26 0 refl))
+returns-2 c =
+    let s = c .before .before .before .before .before .args .t1 in
+    sym (call-none 26 (λ i. []) (moved s) (λ i. moved (nowDoes s i Event) 0) (runningOf (tasksOf s) (semsOf s)) (nobody c) (eqb-false 26 0 refl))
 
 pub block-spec : {M : Type 1} → statement M
 block-spec =
     tie.close
     (tie.spec
-    scan-requires
-    met-at-requires
+    running-requires
     enum-known-runs
     mul-t
     element-copy-out-t
     with-status-requires
-    mul-t10
+    mul-t11
     element-set-from-self
     enum-told
     returns

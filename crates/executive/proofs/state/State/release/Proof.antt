@@ -10,19 +10,17 @@ use lib.ListN.{getD}
 use borrow.Author.Needs.{needs}
 use borrow.Author.Tests.{eqb-false}
 use Rattle.table.specs.declared.Task.{Task}
-use Rattle.table.specs.declared.Status.{Status}
 use Rattle.table.specs.declared.Status.the-variants.{Ready}
 use Rattle.table.specs.Entries.{blankTask, spanOf, withStatus, withDeadline}
 use Rattle.table.proofs.RefusalLaws.{firstOf-zero}
 use Rattle.executive.specs.declared.state.State.{State}
-use Rattle.executive.specs.Standing.{isIdle}
-use Rattle.executive.specs.Calls.{releaseOf, releaseAt, busy, untimely, moved, withTask, withLast}
-use Rattle.executive.proofs.CallLaws.{release-timely, Seeks, seeks-more, seeks-none, seeks-refused, seeks-done}
+use Rattle.executive.specs.Calls.{releaseOf, releaseAt, busy, untimely, moved, withTask, withTasks, withLast}
+use Rattle.executive.proofs.CallLaws.{release-timely, release-told, Seeks, seeks-more, seeks-none, seeks-refused, seeks-done}
 use Rattle.executive.proofs.state.State.release.Statement.{statement}
 use Rattle.executive.proofs.state.State.release.Tie as tie
 
-abbrev tests : State → ℕ → Status → List (ℕ × Bool)
-tests s time now = (23, not (isIdle now)) ∷ (22, untimely (s .last) time) ∷ []
+abbrev refusals : State → ℕ → Task → List (ℕ × Bool)
+refusals s time t = (23, busy t) ∷ (22, untimely (s .last) time) ∷ []
 
 abbrev next : ℕ → Task → Task
 next time t = withStatus (withDeadline t (time + spanOf t)) Ready
@@ -49,10 +47,10 @@ released-requires : tie.Need-released-requires Inv-loop μ-loop
 released-requires c κs =
     let a = c .before .before .before .before .before .before .before .args in
     let l = c .before .before .before .before .before .before .loop in
-    let now = (getD (l .self .tasks) (l .i) blankTask) .status in
-    release-timely (not (isIdle now)) (a .t1 .last) (a .time)
-    (firstOf-zero 20 (not (ltb (l .i) (a .t1 .n))) (tests (a .t1) (a .time) now) (eqb-false 20 0 refl)
-    (sym (c .before .release-refusal .ensures) ∙ c .if2 .taken) .1) .1
+    let t = getD (l .self .tasks) (l .i) blankTask in
+    release-timely (busy t) (a .t1 .last) (a .time)
+    (firstOf-zero 20 (not (ltb (l .i) (a .t1 .n))) (refusals (a .t1) (a .time) t) (eqb-false 20 0 refl)
+    (sym (c .before .release-refusal .ensures ∙ release-told (l .self) (l .i) (a .t1) (a .time)) ∙ c .if2 .taken) .1) .1
 
 mul-t18 : tie.Need-mul-t18 Inv-loop μ-loop
 mul-t18 c = search needs
@@ -72,31 +70,31 @@ loop-again c = let b = c .before .before .before .before .before in
     seeks-more (b .args .number) (b .args .t1) (l .self) (l .answer) (l .i) (b .pre) (l .inv) (c .before .before .before .loop-test .taken) (c .if1 .left)
 
 returns : tie.Need-returns Inv-loop μ-loop
-unfolding releaseOf moved busy releaseAt
+unfolding releaseOf moved releaseAt
 returns c = let b = c .before .before in
     let a = b .args in
     let l = c .before .loop in
-    seeks-none (a .number) (a .t1) (l .self) (l .answer) (l .i) (b .pre) (l .inv) (tests (a .t1) (a .time)) (next (a .time)) (λ x. withLast x (a .time))
+    seeks-none (a .number) (a .t1) (l .self) (l .answer) (l .i) (b .pre) (l .inv) (refusals (a .t1) (a .time)) (next (a .time)) (λ x. withLast x (a .time))
     (c .loop-test .left)
 
 returns-2 : tie.Need-returns-2 Inv-loop μ-loop
-unfolding releaseOf moved busy releaseAt withTask withLast
+unfolding releaseOf moved releaseAt withTasks withLast
 returns-2 c = let b = c .before .before .before .before .before .before .before .before in
     let a = b .args in
     let l = c .before .before .before .before .before .before .before .loop in
     let r = c .before .before .release-refusal in
     ap (λ (t : Task). moved (withLast (withTask (l .self) (l .i) t) (a .time)) (r .result)) (c .released .ensures)
-    ∙ seeks-done (a .number) (a .t1) (l .self) (l .answer) (l .i) (b .pre) (l .inv) (tests (a .t1) (a .time)) (next (a .time)) (λ x. withLast x (a .time))
-    (c .before .before .before .if1 .taken) (r .result) (r .ensures) (c .before .if2 .taken)
+    ∙ seeks-done (a .number) (a .t1) (l .self) (l .answer) (l .i) (b .pre) (l .inv) (refusals (a .t1) (a .time)) (next (a .time)) (λ x. withLast x (a .time))
+    (c .before .before .before .if1 .taken) (r .result) (r .ensures ∙ release-told (l .self) (l .i) (a .t1) (a .time)) (c .before .if2 .taken)
 
 returns-3 : tie.Need-returns-3 Inv-loop μ-loop
-unfolding releaseOf moved busy releaseAt
+unfolding releaseOf moved releaseAt
 returns-3 c = let b = c .before .before .before .before .before .before .before in
     let a = b .args in
     let l = c .before .before .before .before .before .before .loop in
     let r = c .before .release-refusal in
-    seeks-refused (a .number) (a .t1) (l .self) (l .answer) (l .i) (b .pre) (l .inv) (tests (a .t1) (a .time)) (next (a .time)) (λ x. withLast x (a .time))
-    (c .before .before .if1 .taken) (r .result) (r .ensures) (c .if2 .left)
+    seeks-refused (a .number) (a .t1) (l .self) (l .answer) (l .i) (b .pre) (l .inv) (refusals (a .t1) (a .time)) (next (a .time)) (λ x. withLast x (a .time))
+    (c .before .before .if1 .taken) (r .result) (r .ensures ∙ release-told (l .self) (l .i) (a .t1) (a .time)) (c .if2 .left)
 
 pub release-spec : {M : Type 1} → statement M
 release-spec =

@@ -1,22 +1,18 @@
--- `State::running` meets its contract: the task that the scan meets is the running one.
+-- `State::running` meets its contract: the number is that of the task that runs.
 -- Assumes nothing.
 use Prim.Native.Nat.{_<_}
 use mathlib.Core.Path.{_≡_, sym, ap, _∙_}
 use native.Mathlib.Omega.{arith}
 use borrow.Author.Needs.{needs}
 use Rattle.table.specs.declared.Task.{Task}
+use Rattle.waits.specs.Standing.{numberAt}
 use Rattle.executive.specs.States.{tasksOf, semsOf}
-use Rattle.executive.specs.Standing.{runningOf, numberAt}
-use Rattle.executive.proofs.CallLaws.{task-at}
-use Rattle.executive.proofs.RunLaws.{scanned-runs, runs-below}
+use Rattle.executive.proofs.SoundLaws.{used, task-at, runs-below}
 use Rattle.executive.proofs.state.State.running.Statement.{statement}
 use Rattle.executive.proofs.state.State.running.Tie as tie
 
-scan-requires : tie.Need-scan-requires
-scan-requires c κs = search needs
-
-met-at-requires : tie.Need-met-at-requires
-met-at-requires c κs = search needs
+running-requires : tie.Need-running-requires
+running-requires c κs = used (c .before .before .args .t1) (c .before .before .pre)
 
 enum-known-runs : tie.Need-enum-known-runs
 enum-known-runs c = search needs
@@ -24,23 +20,17 @@ enum-known-runs c = search needs
 enum-told : tie.Need-enum-told
 enum-told c = search needs
 
--- the task that the scan met is the running one
-run : (c : tie.After-met-at) → c .met-at .result ≡ runningOf (tasksOf (c .before .before .args .t1)) (semsOf (c .before .before .args .t1))
-run c =
-    scanned-runs (c .before .before .args .t1) (c .before .before .pre) (c .before .scan .result) (c .met-at .result) (c .before .scan .ensures)
-    (c .met-at .ensures)
-
-below : (c : tie.After-known-told) → c .before .runs .given .0 .0 < c .before .before .before .before .before .args .t1 .n
-below c =
-    let b = c .before .before .before .before .before in
-    runs-below (b .args .t1) (b .pre) (c .before .runs .given .0 .0) (sym (run (c .before .before .before)) ∙ c .before .runs .given .1)
+-- the task that runs is one that there is
+below : (c : tie.After-known-told) → c .before .runs .given .0 .0 < c .before .before .before .before .before .before .args .t1 .n
+unfolding tasksOf semsOf
+below c = runs-below (c .before .before .before .before .before .before .args .t1) (c .before .before .before .before .before .before .pre) (c .before .runs .given .0 .0) (sym (c .before .before .before .running .ensures) ∙ c .before .runs .given .1)
 
 fits : (c : tie.After-known-told) → c .before .runs .given .0 .0 < 64
-fits c = let h = below c in let z = c .before .before .before .before .before .pre .sized in omega arith
+fits c = let h = below c in let z = c .before .before .before .before .before .before .pre .sized in omega arith
 
 returns : tie.Need-returns
-unfolding numberAt
-returns c = ap (numberAt (tasksOf (c .before .before .before .before .args .t1))) (sym (c .enum-told .given .1) ∙ run (c .before .before))
+unfolding numberAt tasksOf semsOf
+returns c = ap (numberAt (tasksOf (c .before .before .before .before .before .args .t1))) (sym (c .enum-told .given .1) ∙ c .before .before .running .ensures)
 
 mul-result : tie.Need-mul-result
 mul-result c = omega (arith, fits c)
@@ -49,21 +39,13 @@ element-copy-out-result : tie.Need-element-copy-out-result
 element-copy-out-result c = fits c
 
 returns-2 : tie.Need-returns-2
-unfolding numberAt
-returns-2 c = let b = c .before .before .before .before .before in
-    let i = c .before .runs .given .0 .0 in
-    sym (ap (λ (t : Task). t .number) (task-at (b .args .t1) i (below c)))
-    ∙ ap (numberAt (tasksOf (b .args .t1))) (sym (c .before .runs .given .1) ∙ run (c .before .before .before))
+unfolding numberAt tasksOf semsOf
+returns-2 c =
+    let s = c .before .before .before .before .before .before .args .t1 in
+    sym (ap (λ (t : Task). t .number) (task-at s (c .before .runs .given .0 .0) (below c)))
+    ∙ ap (numberAt (tasksOf s)) (sym (c .before .runs .given .1) ∙ c .before .before .before .running .ensures)
 
 pub running-spec : {M : Type 1} → statement M
 running-spec =
     tie.close
-    (tie.spec
-    scan-requires
-    met-at-requires
-    enum-known-runs
-    enum-told
-    returns
-    mul-result
-    element-copy-out-result
-    returns-2)
+    (tie.spec running-requires enum-known-runs enum-told returns mul-result element-copy-out-result returns-2)

@@ -7,17 +7,15 @@ use mathlib.Core.Path.{refl, ap, _∙_}
 use native.Mathlib.Omega.{arith}
 use borrow.Author.Needs.{needs}
 use Rattle.table.specs.declared.Task.{Task}
-use Rattle.table.specs.declared.Status.{Status}
 use Rattle.table.specs.declared.Status.the-variants.{Ready}
 use Rattle.table.specs.Entries.{withStatus}
-use Rattle.executive.specs.Waits.{waitsFor}
-use Rattle.executive.specs.Calls.{withdrawOf, noSemWait, isNone, nowDoes, moved, withTask}
-use Rattle.executive.proofs.CallLaws.{Seeks, seeks-more, seeks-none, seeks-refused, seeks-done}
+use Rattle.executive.specs.Calls.{withdrawOf, noSemWait, nowDoes, moved, withTask, withTasks}
+use Rattle.executive.proofs.CallLaws.{withdraw-told, Seeks, seeks-more, seeks-none, seeks-refused, seeks-done}
 use Rattle.executive.proofs.state.State.withdraw.Statement.{statement}
 use Rattle.executive.proofs.state.State.withdraw.Tie as tie
 
-abbrev tests : Status → List (ℕ × Bool)
-tests now = (25, isNone (waitsFor now)) ∷ []
+abbrev refusals : Task → List (ℕ × Bool)
+refusals t = (25, noSemWait t) ∷ []
 
 abbrev next : Task → Task
 next t = withStatus t Ready
@@ -37,8 +35,8 @@ mul-t c = search needs
 element-copy-out-t : tie.Need-element-copy-out-t Inv-loop μ-loop
 element-copy-out-t c = search needs
 
-withdraw-refusal-requires : tie.Need-withdraw-refusal-requires Inv-loop μ-loop
-withdraw-refusal-requires c κs = tt
+wake-refusal-requires : tie.Need-wake-refusal-requires Inv-loop μ-loop
+wake-refusal-requires c κs = tt
 
 with-status-requires : tie.Need-with-status-requires Inv-loop μ-loop
 with-status-requires c κs = tt
@@ -56,35 +54,36 @@ loop-less : tie.Need-loop-less Inv-loop μ-loop
 loop-less c = search needs
 
 loop-again : tie.Need-loop-again Inv-loop μ-loop
-loop-again c = let b = c .before .before .before .before .before in
+loop-again c =
+    let b = c .before .before .before .before .before in
     let l = c .before .before .before .before .loop in
     seeks-more (b .args .number) (b .args .t1) (l .self) (l .answer) (l .i) (b .pre) (l .inv) (c .before .before .before .loop-test .taken) (c .if1 .left)
 
 returns : tie.Need-returns Inv-loop μ-loop
-unfolding withdrawOf moved noSemWait nowDoes
+unfolding withdrawOf moved nowDoes
 returns c =
     let b = c .before .before in
     let l = c .before .loop in
-    seeks-none (b .args .number) (b .args .t1) (l .self) (l .answer) (l .i) (b .pre) (l .inv) tests next (λ x. x) (c .loop-test .left)
+    seeks-none (b .args .number) (b .args .t1) (l .self) (l .answer) (l .i) (b .pre) (l .inv) refusals next (λ x. x) (c .loop-test .left)
 
 returns-2 : tie.Need-returns-2 Inv-loop μ-loop
-unfolding withdrawOf moved noSemWait nowDoes withTask
+unfolding withdrawOf moved nowDoes withTasks
 returns-2 c =
     let b = c .before .before .before .before .before .before .before .before in
     let l = c .before .before .before .before .before .before .before .loop in
-    let r = c .before .before .withdraw-refusal in
+    let r = c .before .before .wake-refusal in
     ap (λ (t : Task). moved (withTask (l .self) (l .i) t) (r .result)) (c .with-status .ensures)
-    ∙ seeks-done (b .args .number) (b .args .t1) (l .self) (l .answer) (l .i) (b .pre) (l .inv) tests next (λ x. x)
-    (c .before .before .before .if1 .taken) (r .result) (r .ensures) (c .before .if2 .taken)
+    ∙ seeks-done (b .args .number) (b .args .t1) (l .self) (l .answer) (l .i) (b .pre) (l .inv) refusals next (λ x. x)
+    (c .before .before .before .if1 .taken) (r .result) (r .ensures ∙ withdraw-told (l .self) (l .i) (b .args .t1)) (c .before .if2 .taken)
 
 returns-3 : tie.Need-returns-3 Inv-loop μ-loop
-unfolding withdrawOf moved noSemWait nowDoes
+unfolding withdrawOf moved nowDoes
 returns-3 c =
     let b = c .before .before .before .before .before .before .before in
     let l = c .before .before .before .before .before .before .loop in
-    let r = c .before .withdraw-refusal in
-    seeks-refused (b .args .number) (b .args .t1) (l .self) (l .answer) (l .i) (b .pre) (l .inv) tests next (λ x. x)
-    (c .before .before .if1 .taken) (r .result) (r .ensures) (c .if2 .left)
+    let r = c .before .wake-refusal in
+    seeks-refused (b .args .number) (b .args .t1) (l .self) (l .answer) (l .i) (b .pre) (l .inv) refusals next (λ x. x)
+    (c .before .before .if1 .taken) (r .result) (r .ensures ∙ withdraw-told (l .self) (l .i) (b .args .t1)) (c .if2 .left)
 
 pub withdraw-spec : {M : Type 1} → statement M
 withdraw-spec =
@@ -95,7 +94,7 @@ withdraw-spec =
     loop-holds
     mul-t
     element-copy-out-t
-    withdraw-refusal-requires
+    wake-refusal-requires
     with-status-requires
     mul-t17
     element-set-from-self

@@ -1,0 +1,2 @@
+-- Every public operation's contract is tight.
+pub mod Tightness

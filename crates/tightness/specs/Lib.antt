@@ -1,0 +1,2 @@
+-- What it is for a contract to be tight.
+pub mod Tight

@@ -1,0 +1,1 @@
+// No code: how tight the contracts of all crates are.

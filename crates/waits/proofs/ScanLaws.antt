@@ -1,0 +1,337 @@
+-- The laws of the scan: what the table of links leads to, and what the fold over the tasks keeps.
+-- Assumes nothing.
+use Prim.Native.Nat.{ℕ, zero, suc, _+_, _≤_, _<_}
+use mathlib.Core.Path.{_≡_, refl, sym, ap, subst, _∙_}
+use mathlib.Core.Bool.{Bool, true, false, cond, _&&_, _||_}
+use mathlib.Core.List.{List}
+use native.Mathlib.Omega.{arith}
+use lib.Dec.{ltb, eqb}
+use lib.ListN.{length, take, getD, set, length-set}
+use lib.Seq.{length-take-le, getD-set-same, getD-set-other}
+use borrow.Author.Tests.{lt-ltb, le-ltb, eqb-true, eqb-false, ltb-true, ltb-false}
+use Rattle.table.specs.declared.Task.{Task}
+use Rattle.table.specs.declared.Sem.{Sem}
+use Rattle.table.specs.declared.Holder.{Holder}
+use Rattle.table.specs.declared.Holder.the-variants.{Free, By}
+use Rattle.table.specs.declared.Found.{Found}
+use Rattle.table.specs.declared.Found.the-variants.{At, Nothing}
+use Rattle.table.specs.Entries.{blankTask, blankSem}
+use Rattle.waits.specs.declared.scan.Goal.{Goal}
+use Rattle.waits.specs.declared.scan.Best.{Best}
+use Rattle.waits.specs.Waits.{taskAt, semAt, waitsFor, heldBy, waitsOn, Chained, Used}
+use Rattle.waits.specs.Standing.{foundAnd, ownOf, shownDeadline, better, preferred, bestAmong}
+use Rattle.waits.specs.Reaches.{Reaches}
+use Rattle.waits.specs.Scan.{walked, followed, takes, takenAt, holderLeads, ledBy, Linked, HoldersFit, ledTo, onward, meets, metBy, semCode, metCode, noBest, asBest, folded, winnerOf, bestFor, foldTo}
+use Rattle.waits.proofs.RankLaws.{best-is}
+use Rattle.waits.proofs.ChainLaws.{Long, waits-held, waits-none, chain, task-in, sem-in}
+
+-- one step along the table, and none from where no semaphore is
+pub walked-step : (steps : ℕ) (link : List ℕ) (at : ℕ) → at < 16 → walked (suc steps) link at ≡ walked steps link (getD link at 0)
+unfolding walked
+walked-step steps link at h = rw (lt-ltb at 16 h)
+
+pub walked-stays : (steps : ℕ) (link : List ℕ) (at : ℕ) → 16 ≤ at → walked steps link at ≡ at
+unfolding walked
+walked-stays zero link at h = refl
+walked-stays (suc steps) link at h = rw (le-ltb at 16 h)
+
+-- steps that are left until no semaphore is reached
+unfoldable pub left : ℕ → List ℕ → ℕ → ℕ
+left zero link at = 0
+left (suc steps) link at = cond (ltb at 16) (suc (left steps link (getD link at 0))) 0
+
+-- a walk that has come to its end goes no further with more steps
+pub walked-more : (steps : ℕ) (link : List ℕ) (at : ℕ) → 16 ≤ walked steps link at
+    → (walked (suc steps) link at ≡ walked steps link at) × (left (suc steps) link at ≡ left steps link at)
+unfolding walked left
+walked-more zero link at h = (rw (le-ltb at 16 h), rw (le-ltb at 16 h))
+walked-more (suc steps) link at h = go (ltb at 16) refl h (walked-more steps link (getD link at 0))
+  where
+    go : (b : Bool) → ltb at 16 ≡ b → 16 ≤ cond b (walked steps link (getD link at 0)) at
+        → (16 ≤ walked steps link (getD link at 0)
+        → (walked (suc steps) link (getD link at 0) ≡ walked steps link (getD link at 0))
+        × (left (suc steps) link (getD link at 0) ≡ left steps link (getD link at 0)))
+        → (walked (suc (suc steps)) link at ≡ walked (suc steps) link at) × (left (suc (suc steps)) link at ≡ left (suc steps) link at)
+    go true e h rec = let r = rec h in (rw e (r .0), rw e (ap suc (r .1)))
+    go false e h rec = (rw e, rw e)
+
+-- a table that is filled from the front, with one entry more
+pub table-more : (link next : List ℕ) (k v : ℕ) (f : ℕ → ℕ) → length link ≡ 16 → k < 16 → next ≡ set link k v → v ≡ f k
+    → ((j : ℕ) → j < k → getD link j 0 ≡ f j) → (length next ≡ 16) × ((j : ℕ) → j < k + 1 → getD next j 0 ≡ f j)
+table-more link next k v f long h e fits below =
+    (ap length e ∙ length-set link k v ∙ long, λ j hj. ap (λ (l : List ℕ). getD l j 0) e ∙ at j (eqb j k) refl hj)
+  where
+    at : (j : ℕ) (b : Bool) → eqb j k ≡ b → j < k + 1 → getD (set link k v) j 0 ≡ f j
+    at j true same hj =
+        let q : j ≡ k = eqb-true j k same in
+        ap (λ (i : ℕ). getD (set link k v) i 0) q ∙ getD-set-same link k v 0 (omega arith) ∙ fits ∙ ap f (sym q)
+    at j false other hj =
+        let ne = eqb-false j k other in
+        getD-set-other link k j v 0 ne ∙ below j (nearer j hj ne)
+      where
+        nearer : (j : ℕ) → j < k + 1 → (j ≡ k → ⊥) → j < k
+        nearer j hj ne = go (ltb j k) refl
+          where
+            go : (b : Bool) → ltb j k ≡ b → j < k
+            go true e = ltb-true j k e
+            go false e = let f = ltb-false j k e in absurd (ne (omega arith))
+
+-- where the holder of a semaphore leads, and a free one
+pub led-held : (tasks : List Task) (sems : List Sem) (m : ℕ) (goal : Goal) (k : ℕ) → k < m → (i : ℕ) → (getD sems k blankSem) .holder ≡ By i
+    → holderLeads goal ((getD tasks i blankTask) .status) i ≡ ledBy tasks goal (heldBy ((semAt (take m sems) k) .holder))
+unfolding heldBy ledBy taskAt
+led-held tasks sems m goal k h i e =
+    sym
+    (ap (λ (x : Sem). ledBy tasks goal (heldBy (x .holder))) (sem-in sems m k h)
+    ∙ ap (λ (x : Holder). ledBy tasks goal (heldBy x)) e)
+
+pub led-free : (tasks : List Task) (sems : List Sem) (m : ℕ) (goal : Goal) (k : ℕ) → k < m → (getD sems k blankSem) .holder ≡ Free
+    → 32 ≡ ledBy tasks goal (heldBy ((semAt (take m sems) k) .holder))
+unfolding heldBy ledBy
+led-free tasks sems m goal k h e =
+    sym
+    (ap (λ (x : Sem). ledBy tasks goal (heldBy (x .holder))) (sem-in sems m k h)
+    ∙ ap (λ (x : Holder). ledBy tasks goal (heldBy x)) e)
+
+-- what holds of the entries that are in use
+module _ (tasks : List Task) (n : ℕ) (sems : List Sem) (m : ℕ) (used : Used tasks n sems m) where
+  pub tasks-used : length (take n tasks) ≡ n
+  tasks-used = let z = used .tasksLength in let f = used .tasksFit in length-take-le n tasks (omega arith)
+
+  pub sems-used : length (take m sems) ≡ m
+  sems-used = let z = used .semsLength in let f = used .semsFit in length-take-le m sems (omega arith)
+
+  -- a holder is a task that there is
+  pub holder-below : (k : ℕ) → k < m → (i : ℕ) → (getD sems k blankSem) .holder ≡ By i → i < n
+  unfolding heldBy
+  holder-below k h i e =
+      let tl = tasks-used in
+      let sl = sems-used in
+      let below = used .chained .held k (omega arith) i (ap (λ (x : Sem). heldBy (x .holder)) (sem-in sems m k h) ∙ ap heldBy e) in
+      omega arith
+
+  pub holders-fit : HoldersFit tasks sems m
+  holders-fit =
+      record {
+        tasksLength = used .tasksLength;
+        semsLength = used .semsLength;
+        semsFit = used .semsFit;
+        held = λ k h i e. let below = holder-below k h i e in let f = used .tasksFit in omega arith;
+      }
+
+  -- so the table over all entries is the table over those in use
+  pub linked-used : (goal : Goal) (link : List ℕ) → Linked tasks (take m sems) goal link → Linked (take n tasks) (take m sems) goal link
+  unfolding ledBy
+  linked-used goal link linked = record { long = linked .long; leads = λ k h. linked .leads k h ∙ same k h (heldBy ((semAt (take m sems) k) .holder)) refl }
+    where
+      same : (k : ℕ) → k < length (take m sems) → (f : Found) → heldBy ((semAt (take m sems) k) .holder) ≡ f
+          → ledBy tasks goal f ≡ ledBy (take n tasks) goal f
+      same k h Nothing e = refl
+      same k h (At i) e =
+          let tl = tasks-used in
+          let below = used .chained .held k h i e in
+          ap (λ (t : Task). holderLeads goal (t .status) i) (all i ∙ sym (task-in tasks n i (omega arith)))
+        where
+          all : (i : ℕ) → taskAt tasks i ≡ getD tasks i blankTask
+          all i = unfold taskAt in refl
+
+module _ (tasks : List Task) (sems : List Sem) (goal : Goal) where
+  -- what is met is a task that the goal takes, and it is reached
+  pub meets-is : (fuel j e : ℕ) → meets tasks sems goal fuel j ≡ At e → (takenAt tasks goal e ≡ true) × Reaches tasks sems e j
+  unfolding meets onward
+  meets-is zero j e h = let z : _≡_ {A = ℕ} 0 1 = cc in absurd (omega arith)
+  meets-is (suc fuel) j e h = go (takenAt tasks goal j) refl (waitsOn tasks sems j) refl h (λ k. meets-is fuel k e)
+    where
+      go : (b : Bool) → takenAt tasks goal j ≡ b → (f : Found) → waitsOn tasks sems j ≡ f
+          → cond b (At j) (onward (meets tasks sems goal fuel) f) ≡ At e
+          → ((k : ℕ) → meets tasks sems goal fuel k ≡ At e → (takenAt tasks goal e ≡ true) × Reaches tasks sems e k)
+          → (takenAt tasks goal e ≡ true) × Reaches tasks sems e j
+      go true t f w h rec =
+          let same : j ≡ e = cc in
+          (subst (λ (x : ℕ). takenAt tasks goal x ≡ true) same t, subst (λ (x : ℕ). Reaches tasks sems e x) (sym same) Reaches.here)
+      go false t Nothing w h rec = let z : _≡_ {A = ℕ} 0 1 = cc in absurd (omega arith)
+      go false t (At k) w h rec = let r = rec k h in (r .0, Reaches.there w (r .1))
+
+  -- no task that the goal takes reaches another that it takes
+  abbrev pub Apart : Type 0
+  Apart = (a b : ℕ) → takenAt tasks goal a ≡ true → takenAt tasks goal b ≡ true → Reaches tasks sems b a → a ≡ b
+
+  -- a task that is taken and reached is what is met
+  pub is-met : Apart → {e j d : ℕ} (fuel : ℕ) → takenAt tasks goal e ≡ true → Reaches tasks sems e j → Long tasks sems j d → d < fuel
+      → meets tasks sems goal fuel j ≡ At e
+  unfolding meets onward
+  is-met apart zero t r l h = absurd (omega arith)
+  is-met apart {e} (suc fuel) t (Reaches.here) l h = rw t
+  is-met apart {e} {j} (suc fuel) t (Reaches.there {k = k} w r) (Long.done n) h =
+      let q = waits-none tasks sems j n in let z : _≡_ {A = ℕ} 0 1 = cc in absurd (omega arith)
+  is-met apart {e} {j} (suc fuel) t (Reaches.there {k = k} w r) (Long.more {k = at} {j = next} {d = d} v b l) h =
+      let q = sym (waits-held tasks sems j at v) ∙ w in
+      let same : next ≡ k = cc in
+      go (takenAt tasks goal j) refl (is-met apart fuel t r (subst (λ (x : ℕ). Long tasks sems x d) same l) (omega arith))
+    where
+      go : (c : Bool) → takenAt tasks goal j ≡ c → meets tasks sems goal fuel k ≡ At e
+          → cond (takenAt tasks goal j) (At j) (onward (meets tasks sems goal fuel) (waitsOn tasks sems j)) ≡ At e
+      go true q rest = rw q (ap At (apart j e q t (Reaches.there w r)))
+      go false q rest = rw (q, w) rest
+
+  -- the table followed from a semaphore on leads to what its holder meets
+  pub walked-meets : Chained tasks sems → (link : List ℕ) → Linked tasks sems goal link → length sems ≤ 16
+      → (steps fuel k : ℕ) {j d : ℕ} → k < length sems → heldBy ((semAt sems k) .holder) ≡ At j → Long tasks sems j d → d < steps → d < fuel
+      → walked steps link k ≡ metCode (meets tasks sems goal fuel j)
+  unfolding ledBy holderLeads takenAt meets onward metCode semCode
+  walked-meets c link linked small zero fuel k hk b l h g = absurd (omega arith)
+  walked-meets c link linked small (suc steps) zero k hk b l h g = absurd (omega arith)
+  walked-meets c link linked small (suc steps) (suc fuel) k {j} hk b (Long.done n) h g =
+      walked-step steps link k (omega arith) ∙ ap (walked steps link) (linked .leads k hk ∙ ap (ledBy tasks goal) b)
+      ∙ ends (takenAt tasks goal j) refl
+    where
+      ends : (t : Bool) → takenAt tasks goal j ≡ t → walked steps link (ledBy tasks goal (At j)) ≡ metCode (meets tasks sems goal (suc fuel) j)
+      ends true e = rw e (walked-stays steps link (64 + j) (omega arith))
+      ends false e = rw (e, n, waits-none tasks sems j n) (walked-stays steps link 32 (omega arith))
+  walked-meets c link linked small (suc steps) (suc fuel) k {j} hk b (Long.more {k = at} {j = next} v by l) h g =
+      let below = c .waits j (c .held k hk j b) at v .0 in
+      walked-step steps link k (omega arith) ∙ ap (walked steps link) (linked .leads k hk ∙ ap (ledBy tasks goal) b)
+      ∙ goes (takenAt tasks goal j) refl (walked-meets c link linked small steps fuel at below by l (omega arith) (omega arith))
+    where
+      goes : (t : Bool) → takenAt tasks goal j ≡ t → walked steps link at ≡ metCode (meets tasks sems goal fuel next)
+          → walked steps link (ledBy tasks goal (At j)) ≡ metCode (meets tasks sems goal (suc fuel) j)
+      goes true e rec = rw e (walked-stays steps link (64 + j) (omega arith))
+      goes false e rec = rw (e, v, waits-held tasks sems j at v ∙ by) rec
+
+  -- so the walk comes to its end
+  met-ends : (f : Found) → 16 ≤ metCode f
+  unfolding metCode
+  met-ends Nothing = omega arith
+  met-ends (At e) = omega arith
+
+  pub walk-ends : Chained tasks sems → (link : List ℕ) → Linked tasks sems goal link → length sems ≤ 16 → (k : ℕ) → k < length sems
+      → 16 ≤ walked 17 link k
+  unfolding ledBy
+  walk-ends c link linked small k hk = go (heldBy ((semAt sems k) .holder)) refl
+    where
+      go : (f : Found) → heldBy ((semAt sems k) .holder) ≡ f → 16 ≤ walked 17 link k
+      go Nothing e =
+          rw
+          (walked-step 16 link k (omega arith)
+          ∙ ap (walked 16 link) (linked .leads k hk ∙ ap (ledBy tasks goal) e)
+          ∙ walked-stays 16 link 32 (omega arith))
+          (omega arith)
+      go (At j) e =
+          let l = chain tasks sems c j (c .held k hk j e) in
+          let b = l .2 in
+          rw (walked-meets c link linked small 17 17 k hk e (l .1) (omega arith) (omega arith)) (met-ends (meets tasks sems goal 17 j))
+
+  pub follow-ends : Chained tasks sems → (link : List ℕ) → Linked tasks sems goal link → length sems ≤ 16 → (i : ℕ) → i < length tasks
+      → 16 ≤ followed link (waitsFor ((taskAt tasks i) .status))
+  unfolding followed
+  follow-ends c link linked small i h = go (waitsFor ((taskAt tasks i) .status)) refl
+    where
+      go : (f : Found) → waitsFor ((taskAt tasks i) .status) ≡ f → 16 ≤ followed link (waitsFor ((taskAt tasks i) .status))
+      go Nothing e = rw e (omega arith)
+      go (At k) e = rw e (walk-ends c link linked small k (c .waits i h k e .0))
+
+  -- the table followed from a task on leads to what it meets
+  pub led-met : Chained tasks sems → (link : List ℕ) → Linked tasks sems goal link → length sems ≤ 16 → (i : ℕ) → i < length tasks
+      → ledTo link goal ((taskAt tasks i) .status) i ≡ metCode (metBy tasks sems goal i)
+  unfolding ledTo takenAt metBy meets onward metCode followed
+  led-met c link linked small i h = go (takes goal ((taskAt tasks i) .status) i) refl (chain tasks sems c i h)
+    where
+      go : (t : Bool) → takes goal ((taskAt tasks i) .status) i ≡ t → (d : ℕ) × Long tasks sems i d × (d ≤ length sems)
+          → cond (takes goal ((taskAt tasks i) .status) i) (64 + i) (followed link (waitsFor ((taskAt tasks i) .status)))
+          ≡ metCode
+          (cond (takes goal ((taskAt tasks i) .status) i) (At i) (onward (meets tasks sems goal (length sems)) (waitsOn tasks sems i)))
+      go true e l = rw e
+      go false e l = rw e (rest (l .1) (l .2))
+        where
+          rest : {d : ℕ} → Long tasks sems i d → d ≤ length sems
+              → followed link (waitsFor ((taskAt tasks i) .status)) ≡ metCode (onward (meets tasks sems goal (length sems)) (waitsOn tasks sems i))
+          rest (Long.done n) b = rw (n, waits-none tasks sems i n)
+          rest (Long.more {k = at} {j = next} v by l) b =
+              rw (v, waits-held tasks sems i at v ∙ by)
+              (walked-meets c link linked small 17 (length sems) at (c .waits i h at v .0) by l (omega arith) (omega arith))
+
+  -- scanned upward, a later task is better by queue and deadline alone
+  late : (i b : ℕ) → b < i
+      → better (ownOf tasks i) (ownOf tasks b)
+      ≡ (ltb ((taskAt tasks i) .queue) ((taskAt tasks b) .queue)
+      || (eqb ((taskAt tasks i) .queue) ((taskAt tasks b) .queue)
+      && ltb (shownDeadline (taskAt tasks i)) (shownDeadline (taskAt tasks b))))
+  unfolding better ownOf
+  late i b h =
+      let q = ltb ((taskAt tasks i) .queue) ((taskAt tasks b) .queue) in
+      let p = eqb ((taskAt tasks i) .queue) ((taskAt tasks b) .queue) in
+      let d = ltb (shownDeadline (taskAt tasks i)) (shownDeadline (taskAt tasks b)) in
+      let s = eqb (shownDeadline (taskAt tasks i)) (shownDeadline (taskAt tasks b)) in
+      ap (λ (x : Bool). q || (p && (d || (s && x)))) (le-ltb i b (omega arith))
+      ∙ ap (λ (x : Bool). q || (p && (d || x))) (mathlib.Core.Bool.and-false s)
+      ∙ ap (λ (x : Bool). q || (p && x)) (mathlib.Core.Bool.or-false d)
+
+  -- one task more: what the fold makes of the best so far is the best with that task
+  fold-onto : (i m : ℕ) (w : Found) → metBy tasks sems goal i ≡ At m → (taskAt tasks i) .queue < 256 → ((b : ℕ) → w ≡ At b → b < i)
+      → cond
+      (ltb ((taskAt tasks i) .queue) ((bestFor tasks sems goal w) .queue)
+      || (eqb ((taskAt tasks i) .queue) ((bestFor tasks sems goal w) .queue)
+      && ltb (shownDeadline (taskAt tasks i)) ((bestFor tasks sems goal w) .deadline)))
+      (asBest (taskAt tasks i) i (64 + m))
+      (bestFor tasks sems goal w)
+      ≡ bestFor tasks sems goal (preferred (ownOf tasks) i w)
+  unfolding bestFor noBest preferred metCode asBest
+  fold-onto i m Nothing e q below = rw (lt-ltb ((taskAt tasks i) .queue) 256 q, e)
+  fold-onto i m (At b) e q below = rw (← late i b (below b refl)) (go (better (ownOf tasks i) (ownOf tasks b)))
+    where
+      go : (c : Bool) → cond c (asBest (taskAt tasks i) i (64 + m)) (bestFor tasks sems goal (At b)) ≡ bestFor tasks sems goal (cond c (At i) (At b))
+      go true = rw e
+      go false = refl
+
+  pub fold-step : (i : ℕ) → (taskAt tasks i) .queue < 256
+      → folded (bestFor tasks sems goal (winnerOf tasks sems goal i)) (taskAt tasks i) i (metCode (metBy tasks sems goal i))
+      ≡ bestFor tasks sems goal (winnerOf tasks sems goal (suc i))
+  unfolding folded winnerOf bestAmong metCode foundAnd
+  fold-step i q = go (metBy tasks sems goal i) refl
+    where
+      test : ℕ → Bool
+      test j = foundAnd (λ _. true) (metBy tasks sems goal j)
+
+      w : Found
+      w = bestAmong test (ownOf tasks) i
+
+      go : (f : Found) → metBy tasks sems goal i ≡ f
+          → folded (bestFor tasks sems goal w) (taskAt tasks i) i (metCode f)
+          ≡ bestFor tasks sems goal (cond (foundAnd (λ _. true) f) (preferred (ownOf tasks) i) (λ best. best) w)
+      go Nothing e = refl
+      go (At m) e =
+          rw (le-ltb (64 + m) 64 (omega arith)) (fold-onto i m w e q (λ b h. best-is test (ownOf tasks) i b h .below))
+
+-- so the fold over the tasks in use, with the table of links, keeps the best that meets the goal
+module _ (tasks : List Task) (n : ℕ) (sems : List Sem) (m : ℕ) (used : Used tasks n sems m) (goal : Goal) (link : List ℕ)
+    (linked : Linked tasks (take m sems) goal link) where
+  -- where the chain of a task leads: its walk ends
+  pub led-ends : (i : ℕ) → i < n → 16 ≤ followed link (waitsFor ((getD tasks i blankTask) .status))
+  led-ends i h =
+      let tl = tasks-used tasks n sems m used in
+      let sl = sems-used tasks n sems m used in
+      let f = used .semsFit in
+      subst (λ (t : Task). 16 ≤ followed link (waitsFor (t .status))) (task-in tasks n i h)
+      (follow-ends (take n tasks) (take m sems) goal (used .chained) link (linked-used tasks n sems m used goal link linked) (omega arith) i (omega arith))
+
+  pub fold-all : (i : ℕ) → i ≤ n
+      → foldTo tasks link goal i ≡ bestFor (take n tasks) (take m sems) goal (winnerOf (take n tasks) (take m sems) goal i)
+  unfolding foldTo winnerOf bestAmong bestFor noBest
+  fold-all zero h = refl
+  fold-all (suc i) h =
+      let tl = tasks-used tasks n sems m used in
+      let sl = sems-used tasks n sems m used in
+      let f = used .semsFit in
+      let few = used .queues i (omega arith) in
+      let same : taskAt tasks i ≡ taskAt (take n tasks) i = all i ∙ sym (task-in tasks n i (omega arith)) in
+      ap (λ (b : Best). folded b (taskAt tasks i) i (ledTo link goal ((taskAt tasks i) .status) i)) (fold-all i (omega arith))
+      ∙ ap (λ (t : Task). folded (so-far i) t i (ledTo link goal (t .status) i)) same
+      ∙ ap (folded (so-far i) (taskAt (take n tasks) i) i)
+      (led-met (take n tasks) (take m sems) goal (used .chained) link (linked-used tasks n sems m used goal link linked) (omega arith) i (omega arith))
+      ∙ fold-step (take n tasks) (take m sems) goal i (omega arith)
+    where
+      so-far : ℕ → Best
+      so-far i = bestFor (take n tasks) (take m sems) goal (winnerOf (take n tasks) (take m sems) goal i)
+
+      all : (i : ℕ) → taskAt tasks i ≡ getD tasks i blankTask
+      all i = unfold taskAt in refl
