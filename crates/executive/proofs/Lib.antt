@@ -11,3 +11,4 @@ pub mod KeepLaws
 pub mod SoundCalls
 pub mod DispatchLaws
 pub mod RefusedLaws
+pub mod TableLaws

@@ -3,11 +3,11 @@
 use Prim.Native.Nat.{ℕ, zero, suc, _+_, _≤_, _<_}
 use mathlib.Core.Path.{_≡_, refl, sym, ap, _∙_}
 use mathlib.Core.Bool.{Bool, true, false, not, _&&_, _||_}
-use mathlib.Core.List.{List, [], _∷_, _++_}
+use mathlib.Core.List.{List, [], _∷_, map}
 use native.Mathlib.Nat.{le-of-suc-le-suc, not-suc-le-zero}
 use native.Mathlib.Omega.{arith}
 use lib.Dec.{leb, ltb, eqb}
-use lib.ListN.{length, getD, set, length-set}
+use lib.ListN.{length, getD, set, length-set, length-map}
 use borrow.Author.Tests.{leb-true, le-leb, ltb-true, eq-eqb, not-true}
 use Rattle.table.specs.declared.Board.{Board}
 use Rattle.table.specs.declared.Task.{Task}
@@ -16,7 +16,7 @@ use Rattle.table.specs.Entries.{builtIn}
 use Rattle.table.specs.Sums.{every, any}
 use Rattle.table.specs.declared.Status.{Status}
 use Rattle.table.specs.declared.Holder.{Holder}
-use Rattle.table.specs.Entries.{withStatus, withDeadline, withHolder}
+use Rattle.table.specs.Entries.{withStatus, withDeadline, withHolder, loadedTask, loadedSem}
 use Rattle.table.specs.WellFormed.{
   within,
   taskInRange,
@@ -29,7 +29,7 @@ use Rattle.table.specs.WellFormed.{
   usedOnce,
   WellFormed,
 }
-use Rattle.table.proofs.SumLaws.{both, both-left, both-right, any-none, every-set, any-set}
+use Rattle.table.proofs.SumLaws.{both, both-left, both-right, any-none, every-set, any-set, any-map, every-map}
 
 -- a value that lies within its bounds, and back
 pub within-true : (least value most : ℕ) → within least value most ≡ true → (least ≤ value) × (value ≤ most)
@@ -182,6 +182,13 @@ pub not-so : (b : Bool) → (b ≡ true → ⊥) → b ≡ false
 not-so true h = absurd (h refl)
 not-so false h = refl
 
+-- fields that are not all in range
+pub task-out : (t : Task) → (TaskRange t → ⊥) → false ≡ taskInRange t
+task-out t h = sym (not-so (taskInRange t) (λ e. h (task-range t e)))
+
+pub board-out : (b : Board) → (BoardRange b → ⊥) → false ≡ boardInRange b
+board-out b h = sym (not-so (boardInRange b) (λ e. h (board-range b e)))
+
 -- the first two semaphores stand in order, and so do those behind
 rising : (x y : Sem) (rest : List Sem) → ordered semBefore (x ∷ y ∷ rest) ≡ true → (x .number < y .number) × (ordered semBefore (y ∷ rest) ≡ true)
 unfolding ordered semBefore
@@ -267,6 +274,42 @@ well-formed-sem tasks sems board present k now d w =
       taskNumbers = w .taskNumbers;
       semRanges = every-set semInRange sems k y d refl ∙ w .semRanges;
       semOrder = ordered-set semBefore sems k y d (λ x. refl) (λ x. refl) ∙ w .semOrder;
+      figures = w .figures;
+      absent = w .absent;
+    }
+
+-- a function of the entries that an order does not see
+ordered-map : {A : Type 0} (f : A → A) (before : A → A → Bool) → ((x y : A) → before (f x) (f y) ≡ before x y) → (l : List A)
+    → ordered before (map f l) ≡ ordered before l
+unfolding ordered
+ordered-map f before same [] = refl
+ordered-map f before same (x ∷ []) = refl
+ordered-map f before same (x ∷ y ∷ rest) =
+    ap (λ (b : Bool). b && ordered before (f y ∷ map f rest)) (same x y) ∙ ap (λ (b : Bool). before x y && b) (ordered-map f before same (y ∷ rest))
+
+once-map : (l : List Task) → usedOnce (map loadedTask l) ≡ usedOnce l
+unfolding usedOnce used
+once-map [] = refl
+once-map (x ∷ xs) =
+    ap (λ (b : Bool). not b && usedOnce (map loadedTask xs)) (any-map loadedTask (λ t. eqb (t .number) (x .number)) xs)
+    ∙ ap (λ (b : Bool). not (any (λ t. eqb (t .number) (x .number)) xs) && b) (once-map xs)
+
+-- a table stays well formed with its entries as they are after loading
+pub well-formed-loaded : (tasks : List Task) (sems : List Sem) (board : Board) (present : Bool) → WellFormed tasks sems board present
+    → WellFormed (map loadedTask tasks) (map loadedSem sems) board present
+unfolding taskInRange taskBefore semInRange semBefore
+well-formed-loaded tasks sems board present w =
+    let n = length-map tasks loadedTask in
+    let m = length-map sems loadedSem in
+    record {
+      some = omega (arith, w .some);
+      tasksFit = omega (arith, w .tasksFit);
+      semsFit = omega (arith, w .semsFit);
+      taskRanges = every-map loadedTask taskInRange (λ x. refl) tasks ∙ w .taskRanges;
+      taskOrder = ordered-map loadedTask taskBefore (λ x y. refl) tasks ∙ w .taskOrder;
+      taskNumbers = once-map tasks ∙ w .taskNumbers;
+      semRanges = every-map loadedSem semInRange (λ x. refl) sems ∙ w .semRanges;
+      semOrder = ordered-map loadedSem semBefore (λ x y. refl) sems ∙ w .semOrder;
       figures = w .figures;
       absent = w .absent;
     }

@@ -23,6 +23,11 @@ both-right false b h = let z : _≡_ {A = ℕ} 0 1 = cc in absurd (omega arith)
 pub both : (a b : Bool) → a ≡ true → b ≡ true → (a && b) ≡ true
 both a b h k = rw h k
 
+-- both halves of a disjunction that does not hold
+pub neither : (a b : Bool) → (a || b) ≡ false → (a ≡ false) × (b ≡ false)
+neither true b h = let z : _≡_ {A = ℕ} 0 1 = cc in absurd (omega arith)
+neither false b h = (refl, h)
+
 -- a count's gate is at most 1
 gate-small : (b : Bool) → cond b 1 0 ≤ 1
 gate-small true = omega arith
@@ -109,16 +114,8 @@ module _ {A : Type 0} where
   pub any-none : (test : A → Bool) (l : List A) → any test l ≡ false → (i : ℕ) → i < length l → (d : A) → test (getD l i d) ≡ false
   unfolding any
   any-none test [] h i k d = absurd (not-suc-le-zero k)
-  any-none test (x ∷ xs) h zero k d = neither-left (test x) (any test xs) h
-    where
-      neither-left : (a b : Bool) → (a || b) ≡ false → a ≡ false
-      neither-left true b e = e
-      neither-left false b e = refl
-  any-none test (x ∷ xs) h (suc i) k d = any-none test xs (neither-right (test x) (any test xs) h) i (le-of-suc-le-suc k) d
-    where
-      neither-right : (a b : Bool) → (a || b) ≡ false → b ≡ false
-      neither-right true b e = let z : _≡_ {A = ℕ} 0 1 = cc in absurd (omega arith)
-      neither-right false b e = e
+  any-none test (x ∷ xs) h zero k d = neither (test x) (any test xs) h .0
+  any-none test (x ∷ xs) h (suc i) k d = any-none test xs (neither (test x) (any test xs) h .1) i (le-of-suc-le-suc k) d
 
   -- a search for an entry that passes: the entry at i, or the rest; at the end none
   pub any-more : (test : A → Bool) (l : List A) (i : ℕ) (d : A) → i < length l → any test (drop i l) ≡ (test (getD l i d) || any test (drop (i + 1) l))
@@ -161,3 +158,9 @@ pub any-map : {A B : Type 0} (f : A → B) (test : B → Bool) (l : List A) → 
 unfolding any
 any-map f test [] = refl
 any-map f test (x ∷ xs) = ap (λ (b : Bool). test (f x) || b) (any-map f test xs)
+
+pub every-map : {A : Type 0} (f : A → A) (test : A → Bool) → ((x : A) → test (f x) ≡ test x) → (l : List A) → every test (map f l) ≡ every test l
+unfolding every
+every-map f test same [] = refl
+every-map f test same (x ∷ xs) =
+    ap (λ (b : Bool). b && every test (map f xs)) (same x) ∙ ap (λ (b : Bool). test x && b) (every-map f test same xs)

@@ -77,3 +77,11 @@ withDeadline t at =
 -- the same semaphore, held otherwise
 abbrev pub withHolder : Sem → Holder → Sem
 withHolder s now = record { number = s .number; holder = now }
+
+-- 01, "Dispatch": all tasks are idle after loading, and a task not yet released has deadline 0
+abbrev pub loadedTask : Task → Task
+loadedTask t = withDeadline (withStatus t Idle) 0
+
+-- no semaphore is held after loading
+abbrev pub loadedSem : Sem → Sem
+loadedSem s = withHolder s Free
