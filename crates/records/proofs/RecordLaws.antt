@@ -231,13 +231,29 @@ module _ (r : List ℕ) (n : length r ≡ 32) (bytes : Bytes r) where
       whole false h = first (eqb (getD r 0 0) 1) refl
 
 -- a record is refused with 2 or with 4
-pub refused-number : {r : List ℕ} {d : Decoded} → Said r d → (k : ℕ) → d ≡ Refused k → (k ≡ 2) ⊎ (k ≡ 4)
-refused-number unknown k e = inl (cc)
-refused-number bad k e = inr (cc)
-refused-number (erased h) k e = let z : _≡_ {A = ℕ} 0 1 = cc in absurd (omega arith)
-refused-number (task h i j) k e = let z : _≡_ {A = ℕ} 0 1 = cc in absurd (omega arith)
-refused-number (board h i) k e = let z : _≡_ {A = ℕ} 0 1 = cc in absurd (omega arith)
-refused-number (sem h i j) k e = let z : _≡_ {A = ℕ} 0 1 = cc in absurd (omega arith)
+abbrev pub Plain : Decoded → Type 0
+Plain Erased = Unit
+Plain (TaskRecord t) = Unit
+Plain (BoardRecord b) = Unit
+Plain (SemRecord s) = Unit
+Plain (Refused k) = (k ≡ 2) ⊎ (k ≡ 4)
+
+one-of : (b : Bool) (d e : Decoded) → Plain d → Plain e → Plain (cond b d e)
+one-of true d e p q = p
+one-of false d e p q = q
+
+pub plain : (r : List ℕ) → Plain (decoded r)
+unfolding decoded taskDecoded boardDecoded semDecoded unlessOutOfRange
+plain r =
+    let kind : ℕ → Bool = λ k. eqb (getD r 0 0) k in
+    let third = cond (kind 3) (semDecoded r) (Refused 2) in
+    let second = cond (kind 2) (boardDecoded r) third in
+    let first = cond (kind 1) (taskDecoded r) second in
+    let entry : (fits : Bool) (d : Decoded) → Plain d → Plain (cond fits d (Refused 4)) = λ fits d p. one-of fits d (Refused 4) p (inr refl) in
+    one-of (allAre 255 r) Erased first tt
+    (one-of (kind 1) (taskDecoded r) second (entry (taskInRange (taskIn r) && allAre 0 (drop 12 r)) (TaskRecord (taskIn r)) tt)
+    (one-of (kind 2) (boardDecoded r) third (entry (eqb (getD r 1 0) 0 && boardInRange (boardIn r) && allAre 0 (drop 20 r)) (BoardRecord (boardIn r)) tt)
+    (one-of (kind 3) (semDecoded r) (Refused 2) (entry (eqb (getD r 1 0) 0 && semInRange (semIn r) && allAre 0 (drop 4 r)) (SemRecord (semIn r)) tt) (inl refl))))
 
 -- every record has 32 bytes
 pub length-task : (t : Task) → length (encodeTask t) ≡ 32

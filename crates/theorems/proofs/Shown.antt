@@ -15,6 +15,7 @@ use Rattle.executive.specs.States.{tasksOf, semsOf}
 use Rattle.executive.specs.Sound.{Sound}
 use Rattle.executive.specs.Standing.{standingOf, runningOf}
 use Rattle.executive.specs.Reaches.{IsStanding}
+use Rattle.executive.specs.Tables.{tableOf}
 use Rattle.executive.proofs.SoundCalls.{
   release-sound,
   signal-sound,
@@ -27,7 +28,7 @@ use Rattle.executive.proofs.SoundCalls.{
 use Rattle.executive.proofs.DispatchLaws as Dispatch
 use Rattle.judging.proofs.PassLaws as Pass
 use Rattle.image.specs.Loading.{badLength}
-use Rattle.image.specs.Writing.{encoded, tableOf, badBuffer, writeNumber, written}
+use Rattle.image.specs.Writing.{encoded, badBuffer, writeNumber, written}
 use Rattle.image.proofs.RoundTrips as Trips
 use Rattle.theorems.specs.Comes.{Comes, loaded, from-call}
 use Rattle.theorems.specs.Demands

@@ -17,11 +17,12 @@ use Rattle.executive.specs.Waits.{waitsOn}
 use Rattle.executive.specs.Standing.{ownOf, better, standingOf, readyAt, runningOf, numberAt}
 use Rattle.executive.specs.Reaches.{IsStanding}
 use Rattle.executive.specs.Calls.{moved}
+use Rattle.executive.specs.Tables.{tableOf, asLoaded}
 use Rattle.judging.specs.Verdicts.{verdictOf}
 use Rattle.judging.specs.Passes.{Passes}
 use Rattle.image.specs.Loading.{loadOf, acceptedLoad}
-use Rattle.image.specs.Writing.{encoded, tableOf, writeNumber, written}
-use Rattle.image.specs.Accepted.{Accepted, asLoaded}
+use Rattle.image.specs.Writing.{encoded, writeNumber, written}
+use Rattle.image.specs.Accepted.{Accepted}
 use Rattle.theorems.specs.Comes.{Comes}
 use Rattle.theorems.specs.Conditions.{conditionsOf}
 use Rattle.theorems.specs.Histories.{
