@@ -15,7 +15,6 @@ use Rattle.table.specs.declared.Board.{Board}
 use Rattle.table.specs.declared.Found.{Found}
 use Rattle.table.specs.declared.Found.the-variants.{At, Nothing}
 use Rattle.table.specs.Entries.{blankTask, blankSem, loadedTask, loadedSem}
-use Rattle.table.specs.WellFormed.{WellFormed}
 use Rattle.table.proofs.OrderLaws.{well-formed-loaded}
 use Rattle.executive.specs.declared.state.State.{State}
 use Rattle.executive.specs.States.{tasksOf, semsOf, emptyState}

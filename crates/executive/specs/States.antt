@@ -1,5 +1,4 @@
 -- The state, and the empty one.
-use Prim.Native.Nat.{ℕ}
 use mathlib.Core.Bool.{false}
 use mathlib.Core.List.{List}
 use lib.ListN.{take, replicate}

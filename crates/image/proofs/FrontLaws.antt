@@ -2,20 +2,19 @@
 -- Assumes nothing.
 use Prim.Native.Nat.{ℕ, zero, suc}
 use mathlib.Core.Path.{_≡_, refl, sym, ap, _∙_}
-use mathlib.Core.Bool.{Bool, true, not, _||_}
+use mathlib.Core.Bool.{Bool, not, _||_}
 use mathlib.Core.List.{List, [], _∷_, _++_}
 use native.Mathlib.Omega.{arith}
 use lib.Dec.{eqb, ltb, eqb·suc-zero}
 use lib.ListN.{length}
 use borrow.Author.Tests.{lt-ltb}
 use Rattle.table.specs.Entries.{blankTask, blankSem}
-use Rattle.table.specs.Refusals.{firstOf}
 use Rattle.table.specs.WellFormed.{taskBefore, semBefore, used}
 use Rattle.executive.specs.Tables.{Table, addTask, addSem, addBoard}
 use Rattle.executive.proofs.TableLaws.{length-more}
 use Rattle.records.specs.declared.Decoded.{Decoded}
 use Rattle.records.specs.declared.Decoded.the-variants.{Erased, TaskRecord, BoardRecord, SemRecord, Refused}
-use Rattle.image.specs.Loading.{taken, erasedAfter, usedAfter, refusedAs, follows, orderBroken, numberTwice, tooMany, refusalOf}
+use Rattle.image.specs.Loading.{taken, erasedAfter, follows, orderBroken, numberTwice, tooMany, refusalOf}
 use Rattle.image.specs.Fronts.{lastOf, frontOf, frontAfter, frontBroken, frontTwice, frontFull, frontRefusal}
 
 -- there is an entry

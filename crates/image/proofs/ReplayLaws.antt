@@ -1,12 +1,12 @@
 -- Loading what was encoded replays the entries, one record each; and a load that is accepted was of such records.
 -- Assumes nothing.
-use Prim.Native.Nat.{ℕ, zero, suc, _+_, _*_, _≤_, _<_}
+use Prim.Native.Nat.{ℕ, zero, suc, _+_, _*_, _≤_}
 use mathlib.Core.Path.{_≡_, refl, sym, ap, _∙_, subst}
-use mathlib.Core.Bool.{Bool, true, false, cond, not, _||_}
+use mathlib.Core.Bool.{Bool, true, false, cond, not}
 use mathlib.Core.List.{List, [], _∷_, _++_, map, append-assoc, append-nil}
 use native.Mathlib.Nat.{zero-add, suc-add, mul-suc, add-comm}
 use native.Mathlib.Omega.{arith}
-use lib.Dec.{eqb, ltb}
+use lib.Dec.{eqb}
 use lib.ListN.{length, take, drop, replicate, length-append, length-drop, take-append-drop, replicate-append-replicate}
 use lib.Seq.{take-at, drop-at, append-snoc, length-take-le, getD-take, getD-drop}
 use borrow.Author.Tests.{eqb-true, eqb-false, eq-eqb, ne-eqb, le-ltb, lt-leb}
@@ -27,11 +27,11 @@ use Rattle.records.specs.declared.Decoded.the-variants.{Erased, TaskRecord, Boa
 use Rattle.records.specs.Records.{Bytes, decoded, encodeTask, encodeBoard, encodeSem}
 use Rattle.records.proofs.RecordLaws.{Said, erased, task, board, sem, unknown, bad, said, decoded-task, decoded-board, decoded-sem, decoded-erased, length-task, length-board, length-sem}
 use Rattle.image.specs.declared.load.Loaded.{Loaded}
-use Rattle.image.specs.Loading.{freshTable, taken, erasedAfter, refusalOf, usedAfter, refusedAs, follows, orderBroken, numberTwice, tooMany, refusedLoad, acceptedLoad, finishedLoad, loadFrom, recordsIn}
+use Rattle.image.specs.Loading.{freshTable, taken, erasedAfter, refusalOf, usedAfter, refusedAs, orderBroken, numberTwice, tooMany, refusedLoad, acceptedLoad, finishedLoad, loadFrom, recordsIn}
 use Rattle.image.specs.Writing.{flat, encoded}
 use Rattle.image.proofs.LoadLaws.{load-go, load-stop, Passed, passed, passes}
 use Rattle.image.proofs.WriteLaws.{nothing, flat-more}
-use Rattle.image.proofs.GrowLaws.{Listed, Next, listed-at, used-before, Growing, growing-start, grow, task-passed, board-passed}
+use Rattle.image.proofs.GrowLaws.{Listed, Next, listed-at, used-before, Growing, grow, task-passed, board-passed}
 
 -- the records of entries, encoded one behind the other
 pub records-flat : {A : Type 0} (encode : A → List ℕ) → ((x : A) → length (encode x) ≡ 32) → (xs : List A) (more : ℕ) (tail : List ℕ)

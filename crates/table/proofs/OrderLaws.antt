@@ -1,8 +1,8 @@
 -- The laws of ranges and of order: what the tests of a well-formed table say of its numbers.
 -- Assumes nothing.
-use Prim.Native.Nat.{ℕ, zero, suc, _+_, _≤_, _<_}
+use Prim.Native.Nat.{ℕ, zero, suc, _≤_, _<_}
 use mathlib.Core.Path.{_≡_, refl, sym, ap, _∙_}
-use mathlib.Core.Bool.{Bool, true, false, not, _&&_, _||_}
+use mathlib.Core.Bool.{Bool, true, false, not, _&&_}
 use mathlib.Core.List.{List, [], _∷_, map}
 use native.Mathlib.Nat.{le-of-suc-le-suc, not-suc-le-zero}
 use native.Mathlib.Omega.{arith}
@@ -13,7 +13,7 @@ use Rattle.table.specs.declared.Board.{Board}
 use Rattle.table.specs.declared.Task.{Task}
 use Rattle.table.specs.declared.Sem.{Sem}
 use Rattle.table.specs.Entries.{builtIn}
-use Rattle.table.specs.Sums.{every, any}
+use Rattle.table.specs.Sums.{any}
 use Rattle.table.specs.declared.Status.{Status}
 use Rattle.table.specs.declared.Holder.{Holder}
 use Rattle.table.specs.Entries.{withStatus, withDeadline, withHolder, loadedTask, loadedSem}

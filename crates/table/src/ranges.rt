@@ -89,8 +89,8 @@ pub fn task_before(a: Task, b: Task) -> bool
 }
 
 // Semaphores stand by rising number.
-pub fn sem_before(a: Sem, b: Sem) -> bool
-    ensures { λ r. ⌜ r ≡ semBefore a b ⌝ }
+pub fn sem_before(first: Sem, second: Sem) -> bool
+    ensures { λ r. ⌜ r ≡ semBefore first second ⌝ }
 {
-    a.number < b.number
+    first.number < second.number
 }

@@ -13,7 +13,6 @@ use Rattle.table.specs.declared.Board.{Board}
 use Rattle.table.specs.declared.Task.{Task}
 use Rattle.table.specs.declared.Sem.{Sem}
 use Rattle.table.specs.Entries.{blankTask}
-use Rattle.table.specs.Refusals.{firstOf, answered}
 use Rattle.table.specs.WellFormed.{taskBefore, semBefore, used}
 use Rattle.executive.specs.Tables.{Table, addTask, addSem, addBoard, stateOf}
 use Rattle.records.specs.declared.Decoded.{Decoded}
