@@ -6,3 +6,4 @@ pub mod RunLaws
 pub mod KeepLaws
 pub mod SoundCalls
 pub mod RefusedLaws
+pub mod TableLaws

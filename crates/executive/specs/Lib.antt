@@ -1,4 +1,5 @@
--- What a reader must believe of the state: the empty and the fresh one, what a sound state is, and the calls.
+-- What a reader must believe of the state: the empty one, what a sound state is, the calls, and the state of a table.
 pub mod States
 pub mod Sound
 pub mod Calls
+pub mod Tables

@@ -1,6 +1,6 @@
 // The by-value state that document 01 names: 64 task entries, 16 semaphore entries, the board and its flag.
 ghost use mathlib.Core.Path.{_≡_};
-ghost use Rattle.executive.specs.States.{emptyState, freshState};
+ghost use Rattle.executive.specs.States.{emptyState};
 use table::Board;
 use table::Sem;
 use table::Task;
@@ -32,14 +32,5 @@ impl State {
             board: Board::no_figures(),
             present: false,
         }
-    }
-
-    // What loading starts from: no record read yet, so the built-in figures hold.
-    pub fn fresh() -> Self
-        ensures { λ r. ⌜ r ≡ freshState ⌝ }
-    {
-        let mut state = State::empty();
-        state.board = Board::built_in();
-        state
     }
 }

@@ -1,20 +1,19 @@
 -- Numbers of any width in bytes: reading what was put gives the value, putting changes no other byte, and a value that was read, put back,
 -- gives the same bytes. Each is one law over the width; a width of w bytes holds the numbers below 2 ^ (8 * w).
 -- Assumes nothing.
-use Prim.Native.Nat.{ℕ, zero, suc, _+_, _-_, _*_, _/_, _%_, _^_, _≤_, _<_}
+use Prim.Native.Nat.{ℕ, zero, suc, _+_, _*_, _/_, _%_, _^_, _≤_, _<_}
 use mathlib.Core.Path.{_≡_, refl, sym, ap, _∙_, subst}
-use mathlib.Core.Logic.{_⊎_, inl, inr}
 use mathlib.Core.Bool.{Bool, true, false, _&&_}
 use mathlib.Core.List.{List, [], _∷_, _++_, append-assoc}
-use native.Mathlib.Nat.{add-comm, add-zero, zero-add, add-assoc, mul-assoc, mul-comm, add-mul, mul-one, zero-mul, mod-add-div', mod-lt, mod-eq-of-lt, mul-suc, suc-add, le-of-suc-le-suc, div-one}
+use native.Mathlib.Nat.{add-comm, add-zero, zero-add, add-assoc, mul-assoc, add-mul, mul-one, zero-mul, mod-add-div', mod-eq-of-lt, mul-suc, suc-add, div-one}
 use native.Mathlib.Numerals.{add-one}
 use native.Mathlib.Omega.{arith}
 use lib.Arith.{digits-div, digits-mod}
 use lib.Dec.{eqb}
 use borrow.Author.Tests.{eq-eqb, ne-eqb, eqb-true}
 use lib.Pow.{pow-add, field, mod-mod-pow, shr-shr, shr-lt}
-use lib.ListN.{length, getD, take, drop, set, replicate, length-append, length-take, length-drop, take-append-drop, drop-of-length-le, List·getD-append}
-use lib.Seq.{length-take-le, take-add, drop-drop, take-at, drop-at, drop-append-add, getD-append-add, set-split, drop-cons, getD-take, getD-drop}
+use lib.ListN.{length, getD, take, drop, set, replicate, length-append, length-drop, take-append-drop, drop-of-length-le, List·getD-append}
+use lib.Seq.{length-take-le, take-add, drop-drop, take-at, drop-at, set-split, drop-cons, getD-take, getD-drop}
 use Rattle.fields.specs.Fields.{valueOf, bytesOf, readAt, putAt, allAre}
 
 -- 2 ^ (8 * w) at one byte more
@@ -112,17 +111,6 @@ module _ (l : List ℕ) (at : ℕ) where
   front : at ≤ length l → length (take at l) ≡ at
   front h = length-take-le at l h
 
-  -- putting keeps the length
-  pub length-putAt : (w x : ℕ) → at + w ≤ length l → length (putAt w l at x) ≡ length l
-  unfolding putAt
-  length-putAt w x h =
-      let a = length-append (take at l) (bytesOf w x ++ drop (at + w) l) in
-      let b = length-append (bytesOf w x) (drop (at + w) l) in
-      let c = length-bytesOf w x in
-      let d = length-drop (at + w) l in
-      let e : length (take at l) ≡ at = front (omega arith) in
-      omega arith
-
   -- a wider number is put as two narrower ones
   pub putAt-wider : (w v x : ℕ) → at + (w + v) ≤ length l
       → putAt (w + v) l at x ≡ putAt v (putAt w l at (x % 2 ^ (8 * w))) (at + w) (x / 2 ^ (8 * w))
@@ -200,8 +188,3 @@ pub all-replicate : (b : ℕ) (l : List ℕ) → allAre b l ≡ true → l ≡ r
 unfolding allAre
 all-replicate b [] h = refl
 all-replicate b (x ∷ xs) h = same-more b x xs (eqb x b) refl h (all-replicate b xs)
-
-pub all-of-replicate : (b n : ℕ) → allAre b (replicate n b) ≡ true
-unfolding allAre
-all-of-replicate b zero = refl
-all-of-replicate b (suc n) = ap (λ (t : Bool). t && allAre b (replicate n b)) (eq-eqb b b refl) ∙ all-of-replicate b n

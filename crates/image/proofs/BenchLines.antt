@@ -1,20 +1,20 @@
 -- 01's own lines on images ("Bench figures"), by computation: length 0; length 33; all erased, 64 bytes; one good task, an erased record, a
--- board record. And one good task alone, which is accepted.
+-- board record.
 -- Assumes nothing.
 use Prim.Native.Nat.{ℕ}
 use mathlib.Core.Path.{_≡_, refl, ap}
-use mathlib.Core.Bool.{false}
-use mathlib.Core.List.{List, [], _∷_, _++_}
+use mathlib.Core.List.{List, [], _++_}
 use lib.ListN.{length, replicate}
 use Rattle.table.specs.declared.Task.{Task}
 use Rattle.table.specs.declared.Status.the-variants.{Idle}
-use Rattle.table.specs.Entries.{builtIn, noFigures}
+use Rattle.table.specs.Entries.{noFigures}
 use Rattle.table.specs.Refusals.{firstOf, answered}
 use Rattle.table.specs.Sums.{any}
 use Rattle.table.specs.WellFormed.{within, taskInRange, boardInRange, used}
 use Rattle.fields.specs.Fields.{valueOf, bytesOf, readAt, allAre}
 use Rattle.records.specs.Records.{taskIn, boardIn, unlessOutOfRange, taskDecoded, boardDecoded, decoded, encodeTask, encodeBoard}
-use Rattle.image.specs.Loading.{freshTable, taken, startFront, frontAfter, usedAfter, refusedAs, orderBroken, numberTwice, tooMany, refusalOf, stateOf, refusedLoad, acceptedLoad, finishedLoad, loadFrom, recordsIn, badLength, loadRecords, loadOf}
+use Rattle.executive.specs.Tables.{addTask, addBoard, stateOf}
+use Rattle.image.specs.Loading.{freshTable, taken, erasedAfter, usedAfter, refusedAs, follows, orderBroken, numberTwice, tooMany, refusalOf, refusedLoad, finishedLoad, loadFrom, recordsIn, badLength, loadRecords, loadOf}
 use Rattle.image.proofs.LoadLaws.{load-bad}
 
 -- a good task, with number 7, period 2,000 and cost 1,000 in DP1
@@ -34,13 +34,9 @@ unfolding badLength
 length-33 image h = load-bad image (ap badLength h)
 
 pub all-erased-64 : loadOf (erasedRun 64) ≡ refusedLoad 7 2
-unfolding loadOf loadRecords badLength recordsIn loadFrom freshTable startFront frontAfter taken finishedLoad stateOf firstOf answered decoded allAre refusalOf usedAfter refusedAs orderBroken numberTwice tooMany
+unfolding loadOf loadRecords badLength recordsIn loadFrom freshTable erasedAfter taken addTask addBoard finishedLoad stateOf firstOf answered decoded allAre refusalOf usedAfter refusedAs orderBroken numberTwice tooMany
 all-erased-64 = refl
 
 pub erased-then-board : loadOf (encodeTask goodTask ++ (erasedRun 32 ++ encodeBoard noFigures)) ≡ refusedLoad 3 2
-unfolding loadOf loadRecords badLength recordsIn loadFrom freshTable startFront frontAfter taken finishedLoad stateOf firstOf answered decoded allAre refusalOf usedAfter refusedAs orderBroken numberTwice tooMany encodeTask encodeBoard bytesOf taskDecoded boardDecoded unlessOutOfRange taskIn boardIn readAt valueOf taskInRange boardInRange within used any
+unfolding loadOf loadRecords badLength recordsIn loadFrom freshTable erasedAfter taken addTask addBoard finishedLoad stateOf firstOf answered decoded allAre refusalOf usedAfter refusedAs follows orderBroken numberTwice tooMany encodeTask encodeBoard bytesOf taskDecoded boardDecoded unlessOutOfRange taskIn boardIn readAt valueOf taskInRange boardInRange within used any
 erased-then-board = refl
-
-pub one-task : loadOf (encodeTask goodTask ++ erasedRun 32) ≡ acceptedLoad (stateOf (record { tasks = goodTask ∷ []; sems = []; board = builtIn; present = false }))
-unfolding loadOf loadRecords badLength recordsIn loadFrom freshTable startFront frontAfter taken finishedLoad stateOf firstOf answered decoded allAre refusalOf usedAfter refusedAs orderBroken numberTwice tooMany encodeTask bytesOf taskDecoded unlessOutOfRange taskIn readAt valueOf taskInRange within used any
-one-task = refl

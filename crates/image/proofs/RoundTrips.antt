@@ -1,9 +1,8 @@
 -- The round trips of the image, and what is accepted: the theorems of this crate, over the definitions that the contracts of `load` and
 -- `write` cite.
 --     accepted-loads, loads-accepted    an image loads with 0 exactly if it is accepted, said without the loader
---     rewritten, rewritten-same         write after load: a buffer of the image's length gets that image back, a longer one 255 behind it
+--     rewritten                         write after load: a buffer of the image's length gets that image back, a longer one 255 behind it
 --     reloaded                          load after write: what is written loads with 0, and gives the state as after loading
---     loaded-well-formed                the table that was loaded is well formed
 --     loaded-sound, sound-of            the state that loading hands back is sound
 --     refused-empty                     a refused load hands back the empty state
 -- Assumes nothing.
@@ -11,27 +10,28 @@ use Prim.Native.Nat.{ℕ, suc, _+_, _-_, _*_, _/_, _%_, _≤_}
 use mathlib.Core.Path.{_≡_, refl, sym, ap, _∙_, subst}
 use mathlib.Core.Logic.{_≢_, _⊎_, inl, inr}
 use mathlib.Core.Bool.{Bool, true, false, cond, not}
-use mathlib.Core.List.{List, [], _∷_, _++_, append-assoc, append-nil}
+use mathlib.Core.List.{List, [], _∷_, _++_, map, append-assoc}
 use native.Mathlib.Omega.{arith}
 use lib.Dec.{eqb, ltb}
 use lib.ListN.{length, replicate, length-append, length-replicate, replicate-append-replicate}
 use borrow.Author.Tests.{eqb-true, eqb-false, ltb-false, not-false}
-use Rattle.table.specs.WellFormed.{WellFormed, used}
+use Rattle.table.specs.Entries.{loadedTask, loadedSem}
 use Rattle.table.proofs.RefusalLaws.{firstOf-zero}
+use Rattle.table.proofs.SumLaws.{neither}
 use Rattle.executive.specs.declared.state.State.{State}
-use Rattle.executive.specs.States.{tasksOf, semsOf, emptyState}
+use Rattle.executive.specs.States.{emptyState}
 use Rattle.executive.specs.Sound.{Sound}
-use Rattle.records.specs.Records.{Bytes, decoded}
-use Rattle.image.specs.declared.load.Front.{Front}
+use Rattle.executive.specs.Tables.{Table, WellFormedTable, loadedTable, stateOf, tableOf, asLoaded}
+use Rattle.executive.proofs.TableLaws.{state-table, loaded-well, loaded-again, as-loaded, state-sound, empty-sound}
+use Rattle.records.specs.Records.{Bytes, decoded, encodeTask, encodeBoard, encodeSem}
 use Rattle.image.specs.declared.load.Loaded.{Loaded}
-use Rattle.image.specs.Loading.{Table, freshTable, startFront, taken, frontAfter, refusalOf, stateOf, refusedLoad, acceptedLoad, finishedLoad, loadFrom, recordsIn, badLength, loadRecords, loadOf}
-use Rattle.image.specs.Writing.{flat, encoded, tableOf, badBuffer, writeNumber, written}
-use Rattle.image.specs.Accepted.{Accepted, asLoaded}
+use Rattle.image.specs.Loading.{freshTable, taken, erasedAfter, refusalOf, refusedLoad, acceptedLoad, finishedLoad, loadFrom, recordsIn, badLength, loadRecords, loadOf}
+use Rattle.image.specs.Writing.{flat, encoded, badBuffer, writeNumber, written}
+use Rattle.image.specs.Accepted.{Accepted}
 use Rattle.image.proofs.LoadLaws.{load-bad, load-good, load-stop, load-go, length-right}
 use Rattle.image.proofs.WriteLaws.{length-table, write-good, buffer-right}
-use Rattle.image.proofs.GrowLaws.{growing-start, growing-well, neither}
+use Rattle.image.proofs.GrowLaws.{growing-start, growing-well, growing-loaded, well-growing}
 use Rattle.image.proofs.ReplayLaws.{erasedBytes, replayed, Ended, ended-of, finished-none, finished-some}
-use Rattle.image.proofs.LoadedLaws.{loadedTable, loaded-well, loaded-bytes, loaded-tasks, loaded-sems, state-table, state-sound, empty-sound, as-loaded}
 
 -- a length that is not bad
 length-good : (bytes : ℕ) → badLength bytes ≡ false → (bytes % 32 ≡ 0) × (bytes ≤ 4096)
@@ -51,13 +51,13 @@ accepted-length image h = go (badLength (length image)) refl
 
 -- what an accepted image was
 ended : (image : List ℕ) → Bytes image → (loadOf image) .number ≡ 0 → Ended freshTable image (loadOf image)
-unfolding startFront loadRecords
+unfolding loadRecords
 ended image bytes h =
     let good = accepted-length image h in
     let long = length-good (length image) good in
     let same = load-good image good in
     subst (λ (l : Loaded). Ended freshTable image l) (sym same)
-    (ended-of (length image / 32) image freshTable startFront 0 growing-start refl (omega arith) bytes (sym (ap (λ (l : Loaded). l .number) same) ∙ h))
+    (ended-of (length image / 32) image freshTable 0 growing-start (omega arith) bytes (sym (ap (λ (l : Loaded). l .number) same) ∙ h))
 
 ended-bytes : (image : List ℕ) {answer : Loaded} (e : Ended freshTable image answer) → image ≡ encoded (e .table) ++ erasedBytes (32 * e .gone)
 unfolding freshTable encoded flat
@@ -76,8 +76,22 @@ length-image t e =
     let d = gate (t .present) in
     omega arith
 
+-- the bytes of a table do not tell what its tasks do and who holds its semaphores
+flat-map : {A : Type 0} (f : A → A) (encode : A → List ℕ) → ((x : A) → encode (f x) ≡ encode x) → (l : List A) → flat encode (map f l) ≡ flat encode l
+unfolding flat
+flat-map f encode same [] = refl
+flat-map f encode same (x ∷ xs) =
+    ap (λ (m : List ℕ). m ++ flat encode (map f xs)) (same x) ∙ ap (λ (m : List ℕ). encode x ++ m) (flat-map f encode same xs)
+
+loaded-bytes : (t : Table) → encoded (loadedTable t) ≡ encoded t
+unfolding encoded loadedTable encodeTask encodeSem
+loaded-bytes t =
+    let b = cond (t .present) (encodeBoard (t .board)) [] in
+    ap (λ (m : List ℕ). b ++ (m ++ flat encodeSem (map loadedSem (t .sems)))) (flat-map loadedTask encodeTask (λ x. refl) (t .tasks))
+    ∙ ap (λ (m : List ℕ). b ++ (flat encodeTask (t .tasks) ++ m)) (flat-map loadedSem encodeSem (λ x. refl) (t .sems))
+
 -- the encoding of a well-formed table, with erased records behind it, loads to that table
-encoded-loads : (t : Table) → WellFormed (t .tasks) (t .sems) (t .board) (t .present) → (e : ℕ) → length (encoded t ++ erasedBytes (32 * e)) ≤ 4096
+encoded-loads : (t : Table) → WellFormedTable t → (e : ℕ) → length (encoded t ++ erasedBytes (32 * e)) ≤ 4096
     → loadOf (encoded t ++ erasedBytes (32 * e)) ≡ acceptedLoad (stateOf (loadedTable t))
 unfolding loadRecords
 encoded-loads t well e fits =
@@ -86,9 +100,10 @@ encoded-loads t well e fits =
     let image = encoded u ++ erasedBytes (32 * e) in
     let n = length-image u e in
     let long : length image ≤ 4096 = subst (λ (l : List ℕ). length l ≤ 4096) same fits in
+    let good = loaded-well t well in
     ap loadOf same
     ∙ (load-good image (length-right (length image) (omega arith) long)
-    ∙ replayed u (loaded-well t well) (loaded-tasks t) (loaded-sems t) e (length image / 32) (omega arith))
+    ∙ replayed u (well-growing u good (loaded-again t)) (good .some) e (length image / 32) (omega arith))
 
 -- a table with a task, as a state
 some-task : (t : Table) → 1 ≤ length (t .tasks) → (stateOf t) .n ≡ 0 → ⊥
@@ -96,32 +111,32 @@ unfolding stateOf
 some-task t some h = omega arith
 
 -- the table of a sound state with a task is well formed
-table-well : (s : State) → Sound s → 1 ≤ s .n → WellFormed ((tableOf s) .tasks) ((tableOf s) .sems) ((tableOf s) .board) ((tableOf s) .present)
+table-well : (s : State) → Sound s → 1 ≤ s .n → WellFormedTable (tableOf s)
 unfolding tableOf
 table-well s sound some = sound .table some
 
 -- a load hands back the empty state, or its answer is 0
-records-empty : (rs : List (List ℕ)) (t : Table) (f : Front) (place : ℕ) → ((loadFrom t f place rs) .number ≡ 0) ⊎ ((loadFrom t f place rs) .state ≡ emptyState)
+records-empty : (rs : List (List ℕ)) (t : Table) (e : Bool) (place : ℕ) → ((loadFrom t e place rs) .number ≡ 0) ⊎ ((loadFrom t e place rs) .state ≡ emptyState)
 unfolding loadFrom refusedLoad acceptedLoad
-records-empty [] t f place = go (eqb ((stateOf t) .n) 0) refl
+records-empty [] t e place = go (eqb ((stateOf t) .n) 0) refl
   where
     go : (b : Bool) → eqb ((stateOf t) .n) 0 ≡ b → ((finishedLoad (stateOf t) place) .number ≡ 0) ⊎ ((finishedLoad (stateOf t) place) .state ≡ emptyState)
-    go true e = inr (ap (λ (l : Loaded). l .state) (finished-none (stateOf t) place (eqb-true ((stateOf t) .n) 0 e)))
-    go false e =
-        let some : (stateOf t) .n ≡ 0 → ⊥ = eqb-false ((stateOf t) .n) 0 e in
+    go true z = inr (ap (λ (l : Loaded). l .state) (finished-none (stateOf t) place (eqb-true ((stateOf t) .n) 0 z)))
+    go false z =
+        let some : (stateOf t) .n ≡ 0 → ⊥ = eqb-false ((stateOf t) .n) 0 z in
         inl (ap (λ (l : Loaded). l .number) (finished-some (stateOf t) place (omega arith)))
-records-empty (r ∷ rs) t f place =
-    go (eqb (refusalOf f (λ number. used number (t .tasks)) (decoded r)) 0) refl (records-empty rs (taken t (decoded r)) (frontAfter f (decoded r)) (suc place))
+records-empty (r ∷ rs) t e place = go (eqb number 0) refl (records-empty rs (taken t (decoded r)) (erasedAfter e (decoded r)) (suc place))
   where
-    go : (b : Bool) → eqb (refusalOf f (λ number. used number (t .tasks)) (decoded r)) 0 ≡ b
-        → ((loadFrom (taken t (decoded r)) (frontAfter f (decoded r)) (suc place) rs) .number ≡ 0)
-        ⊎ ((loadFrom (taken t (decoded r)) (frontAfter f (decoded r)) (suc place) rs) .state ≡ emptyState)
-        → ((loadFrom t f place (r ∷ rs)) .number ≡ 0) ⊎ ((loadFrom t f place (r ∷ rs)) .state ≡ emptyState)
-    go true e rest =
-        subst (λ (l : Loaded). (l .number ≡ 0) ⊎ (l .state ≡ emptyState))
-        (sym (load-go t f place r rs (eqb-true (refusalOf f (λ number. used number (t .tasks)) (decoded r)) 0 e))) rest
-    go false e rest =
-        inr (ap (λ (l : Loaded). l .state) (load-stop t f place r rs (eqb-false (refusalOf f (λ number. used number (t .tasks)) (decoded r)) 0 e)))
+    number : ℕ
+    number = refusalOf e t (decoded r)
+
+    behind : Loaded
+    behind = loadFrom (taken t (decoded r)) (erasedAfter e (decoded r)) (suc place) rs
+
+    go : (b : Bool) → eqb number 0 ≡ b → (behind .number ≡ 0) ⊎ (behind .state ≡ emptyState)
+        → ((loadFrom t e place (r ∷ rs)) .number ≡ 0) ⊎ ((loadFrom t e place (r ∷ rs)) .state ≡ emptyState)
+    go true z rest = subst (λ (l : Loaded). (l .number ≡ 0) ⊎ (l .state ≡ emptyState)) (sym (load-go t e place r rs (eqb-true number 0 z))) rest
+    go false z rest = inr (ap (λ (l : Loaded). l .state) (load-stop t e place r rs (eqb-false number 0 z)))
 
 image-empty : (image : List ℕ) → ((loadOf image) .number ≡ 0) ⊎ ((loadOf image) .state ≡ emptyState)
 unfolding refusedLoad loadRecords
@@ -131,7 +146,7 @@ image-empty image = go (badLength (length image)) refl
     go true e = inr (ap (λ (l : Loaded). l .state) (load-bad image e))
     go false e =
         subst (λ (l : Loaded). (l .number ≡ 0) ⊎ (l .state ≡ emptyState)) (sym (load-good image e))
-        (records-empty (recordsIn (length image / 32) image) freshTable startFront 0)
+        (records-empty (recordsIn (length image / 32) image) freshTable false 0)
 
 -- what is accepted, said without the loader, loads with 0
 pub accepted-loads : (image : List ℕ) → Accepted image → (loadOf image) .number ≡ 0
@@ -146,7 +161,7 @@ loads-accepted image bytes h =
     let e = ended image bytes h in
     record {
       table = e .table;
-      wellFormed = growing-well (e .table) (e .front) (e .growing) (e .some);
+      wellFormed = growing-well (e .table) (e .growing) (e .some);
       erased = e .gone;
       bytes = ended-bytes image e;
       fits = (length-good (length image) (accepted-length image h)) .1;
@@ -179,15 +194,6 @@ rewritten image bytes h buffer whole-records short fits =
           ∙ ap (λ (l : List ℕ). l ++ erasedBytes (length buffer - length image)) (sym (ended-bytes image e))))))),
     )
 
--- a buffer of the loaded image's length gets that image back
-pub rewritten-same : (image : List ℕ) → Bytes image → (loadOf image) .number ≡ 0 → (buffer : List ℕ) → length buffer ≡ length image
-    → (writeNumber ((loadOf image) .state) (length buffer) ≡ 0) × (written ((loadOf image) .state) buffer ≡ image)
-rewritten-same image bytes h buffer n =
-    let long = length-good (length image) (accepted-length image h) in
-    let all = rewritten image bytes h buffer (ap (λ (k : ℕ). k % 32) n ∙ long .0) (omega arith) (omega arith) in
-    let none : length buffer - length image ≡ 0 = omega arith in
-    (all .0, all .1 ∙ (ap (λ (k : ℕ). image ++ erasedBytes k) none ∙ append-nil image))
-
 -- load after write: for every sound state with a task, what an accepted write leaves loads with 0, and gives the state as after loading
 pub reloaded : (s : State) → Sound s → 1 ≤ s .n → (buffer : List ℕ) → writeNumber s (length buffer) ≡ 0 → loadOf (written s buffer) ≡ acceptedLoad (asLoaded s)
 unfolding writeNumber badBuffer
@@ -209,16 +215,6 @@ reloaded s sound some buffer h =
     omega (arith, length-append done (erasedBytes (32 * e)), length-replicate {A = ℕ} (32 * e) 255) in
     ap loadOf image ∙ (encoded-loads t (table-well s sound some) e fits ∙ ap acceptedLoad (sym (as-loaded s sound)))
 
--- the table that was loaded is well formed
-pub loaded-well-formed : (image : List ℕ) → Bytes image → (loadOf image) .number ≡ 0
-    → WellFormed (tasksOf ((loadOf image) .state)) (semsOf ((loadOf image) .state)) (((loadOf image) .state) .board) (((loadOf image) .state) .present)
-unfolding acceptedLoad stateOf
-loaded-well-formed image bytes h =
-    let e = ended image bytes h in
-    let state : (loadOf image) .state ≡ stateOf (e .table) = ap (λ (l : Loaded). l .state) (e .same) in
-    subst (λ (s : State). WellFormed (tasksOf s) (semsOf s) (s .board) (s .present)) (sym state)
-    ((state-sound (e .table) (e .front) (e .growing) (e .some)) .table (e .some))
-
 -- a refused load hands back the empty state
 pub refused-empty : (image : List ℕ) → (loadOf image) .number ≢ 0 → (loadOf image) .state ≡ emptyState
 refused-empty image h = go (image-empty image)
@@ -235,7 +231,7 @@ loaded-sound image bytes = go (image-empty image)
     go : ((loadOf image) .number ≡ 0) ⊎ ((loadOf image) .state ≡ emptyState) → Sound ((loadOf image) .state)
     go (inl h) =
         let e = ended image bytes h in
-        subst Sound (sym (ap (λ (l : Loaded). l .state) (e .same))) (state-sound (e .table) (e .front) (e .growing) (e .some))
+        subst Sound (sym (ap (λ (l : Loaded). l .state) (e .same))) (state-sound (e .table) (growing-well (e .table) (e .growing) (e .some)) (growing-loaded (e .table) (e .growing)))
     go (inr h) = subst Sound (sym h) empty-sound
 
 -- the same of what a load answered

@@ -4,23 +4,26 @@ use Prim.Native.Nat.{ℕ, _+_, _-_, _*_, _≤_, _<_}
 use mathlib.Core.Path.{_≡_, refl, sym, ap, _∙_}
 use mathlib.Core.Logic.{_≢_}
 use mathlib.Core.Bool.{Bool, true, false, cond}
-use mathlib.Core.List.{List, [], _∷_, _++_, append-assoc, append-nil}
+use mathlib.Core.List.{List, [], _∷_, _++_, map, append-assoc, append-nil}
 use native.Mathlib.Numerals.{add-one}
 use native.Mathlib.Omega.{arith}
 use lib.Dec.{eqb}
-use lib.ListN.{length, getD, take, drop, replicate, length-append, length-drop}
-use lib.Seq.{drop-drop, drop-length, take-at, drop-at, take-suc, length-take-le}
+use lib.ListN.{length, getD, take, drop, replicate, length-append, length-drop, length-map, drop-of-length-le, List·getD-append, List·getD-map}
+use lib.Seq.{drop-drop, drop-length, take-all, take-at, drop-at, take-suc, length-take-le, getD-take, getD-append-add}
 use borrow.Author.Tests.{eq-eqb, ne-eqb, lt-ltb, le-ltb}
 use borrow.Rule.Slice.PartMut.{putMid}
 use Rattle.table.specs.declared.Board.{Board}
+use Rattle.table.specs.declared.Sem.{Sem}
+use Rattle.table.specs.declared.Task.{Task}
 use Rattle.table.proofs.RefusalLaws.{answered-refused, answered-done, firstOf-here, firstOf-past, firstOf-none}
 use Rattle.executive.specs.declared.state.State.{State}
 use Rattle.executive.specs.States.{tasksOf, semsOf}
 use Rattle.executive.specs.Sound.{Sized}
+use Rattle.executive.specs.Tables.{Table, tableOf}
 use Rattle.records.specs.Records.{encodeTask, encodeBoard, encodeSem}
 use Rattle.records.proofs.RecordLaws.{length-task, length-board, length-sem}
-use Rattle.image.specs.Loading.{Table, badLength}
-use Rattle.image.specs.Writing.{flat, encoded, tableOf, badBuffer, writeNumber, written}
+use Rattle.image.specs.Loading.{badLength}
+use Rattle.image.specs.Writing.{flat, encoded, badBuffer, writeNumber, written}
 
 -- a list of length 0 has no element
 pub nothing : {A : Type 0} (l : List A) → length l ≡ 0 → l ≡ []
@@ -69,6 +72,102 @@ module _ {A : Type 0} (encode : A → List ℕ) where
         ∙ (ap (λ (j : ℕ). (flat encode (take i l) ++ encode (getD l i d)) ++ drop j whole) at
         ∙ ap (λ (q : List ℕ). q ++ drop ((i + 1) * 32) whole) (sym (ap (flat encode) next ∙ flat-more (take i l) (getD l i d))))))
 
+-- the records behind the board's: the tasks, then the semaphores, as one list
+pub data Entry : Type 0 where
+  of-task : Task → Entry
+  of-sem : Sem → Entry
+
+abbrev pub encodeEntry : Entry → List ℕ
+encodeEntry (of-task t) = encodeTask t
+encodeEntry (of-sem s) = encodeSem s
+
+pub length-entry : (x : Entry) → length (encodeEntry x) ≡ 32
+length-entry (of-task t) = length-task t
+length-entry (of-sem s) = length-sem s
+
+unfoldable pub entriesOf : State → List Entry
+entriesOf s = map of-task (tasksOf s) ++ map of-sem (semsOf s)
+
+flat-through : {A B : Type 0} (encode : B → List ℕ) (f : A → B) (l : List A) → flat encode (map f l) ≡ flat (λ x. encode (f x)) l
+unfolding flat
+flat-through encode f [] = refl
+flat-through encode f (x ∷ xs) = ap (λ (m : List ℕ). encode (f x) ++ m) (flat-through encode f xs)
+
+pub flat-entries : (s : State) → flat encodeEntry (entriesOf s) ≡ flat encodeTask (tasksOf s) ++ flat encodeSem (semsOf s)
+unfolding entriesOf
+flat-entries s =
+    flat-append encodeEntry (map of-task (tasksOf s)) (map of-sem (semsOf s))
+    ∙ (ap (λ (m : List ℕ). m ++ flat encodeEntry (map of-sem (semsOf s))) (flat-through encodeEntry of-task (tasksOf s))
+    ∙ ap (λ (m : List ℕ). flat encodeTask (tasksOf s) ++ m) (flat-through encodeEntry of-sem (semsOf s)))
+
+-- the first i records stand in the part, and behind them what stood there
+pub record Written (s : State) (whole part : List ℕ) (i : ℕ) : Type 0 where
+  pub inside : i ≤ s .n + s .m
+  pub bytes : part ≡ flat encodeEntry (take i (entriesOf s)) ++ drop (i * 32) whole
+
+pub written-start : (s : State) (whole : List ℕ) → Written s whole whole 0
+unfolding flat
+written-start s whole = record { inside = omega arith; bytes = refl }
+
+module _ (s : State) (z : Sized s) where
+  count-tasks : length (map of-task (tasksOf s)) ≡ s .n
+  unfolding tasksOf
+  count-tasks = length-map (tasksOf s) of-task ∙ length-take-le (s .n) (s .tasks) (omega (arith, z .tasksLength, z .tasksFit))
+
+  count-sems : length (map of-sem (semsOf s)) ≡ s .m
+  unfolding semsOf
+  count-sems = length-map (semsOf s) of-sem ∙ length-take-le (s .m) (s .sems) (omega (arith, z .semsLength, z .semsFit))
+
+  pub count-entries : length (entriesOf s) ≡ s .n + s .m
+  unfolding entriesOf
+  count-entries = length-append (map of-task (tasksOf s)) (map of-sem (semsOf s)) ∙ omega (arith, count-tasks, count-sems)
+
+  -- each stands where the state has it
+  pub entry-task : (d : Task) (i : ℕ) → i < s .n → of-task (getD (s .tasks) i d) ≡ getD (entriesOf s) i (of-task d)
+  unfolding entriesOf tasksOf
+  entry-task d i h =
+      sym
+      (List·getD-append (map of-task (tasksOf s)) (map of-sem (semsOf s)) (of-task d) i (omega (arith, count-tasks))
+      ∙ (List·getD-map of-task (tasksOf s) i d ∙ ap of-task (getD-take (s .n) (s .tasks) i d h)))
+
+  pub entry-sem : (d : Sem) (i : ℕ) → s .n ≤ i → i < s .n + s .m → of-sem (getD (s .sems) (i - s .n) d) ≡ getD (entriesOf s) i (of-sem d)
+  unfolding entriesOf semsOf
+  entry-sem d i h k =
+      let place : i ≡ length (map of-task (tasksOf s)) + (i - s .n) = omega (arith, count-tasks) in
+      sym
+      (ap (λ (j : ℕ). getD (entriesOf s) j (of-sem d)) place
+      ∙ (getD-append-add (map of-task (tasksOf s)) (map of-sem (semsOf s)) (i - s .n) (of-sem d)
+      ∙ (List·getD-map of-sem (semsOf s) (i - s .n) d ∙ ap of-sem (getD-take (s .m) (s .sems) (i - s .n) d (omega arith)))))
+
+  module _ (whole : List ℕ) (long : length whole ≡ 32 * (s .n + s .m)) (part : List ℕ) (i : ℕ) (w : Written s whole part i) where
+    pub written-long : length part ≡ 32 * (s .n + s .m)
+    written-long =
+        let n = length-flat encodeEntry length-entry (take i (entriesOf s)) in
+        let m = length-take-le i (entriesOf s) (omega (arith, count-entries, w .inside)) in
+        ap length (w .bytes) ∙ (length-append (flat encodeEntry (take i (entriesOf s))) (drop (i * 32) whole) ∙ omega (arith, length-drop (i * 32) whole, w .inside))
+
+    pub written-end : s .n + s .m ≤ i → part ≡ flat encodeTask (tasksOf s) ++ flat encodeSem (semsOf s)
+    written-end h =
+        let all : take i (entriesOf s) ≡ entriesOf s = take-all i (entriesOf s) (omega (arith, count-entries)) in
+        let gone : drop (i * 32) whole ≡ [] = drop-of-length-le whole {i = i * 32} (omega arith) in
+        w .bytes
+        ∙ (ap (λ (l : List ℕ). flat encodeEntry (take i (entriesOf s)) ++ l) gone
+        ∙ (append-nil (flat encodeEntry (take i (entriesOf s))) ∙ (ap (flat encodeEntry) all ∙ flat-entries s)))
+
+    module _ (more : i < s .n + s .m) where
+      -- the part of the next record, and that record put into it
+      pub next-width : length (take (i * 32 + 32 - i * 32) (drop (i * 32) part)) ≡ 32
+      next-width =
+          length-take-le (i * 32 + 32 - i * 32) (drop (i * 32) part) (rw (length-drop (i * 32) part) (omega (arith, written-long))) ∙ omega arith
+
+      pub written-more : (d : Entry) (r : List ℕ) → r ≡ encodeEntry (getD (entriesOf s) i d)
+          → Written s whole (putMid (i * 32) (i * 32 + 32 - i * 32) part r) (i + 1)
+      written-more d r e =
+          record {
+            inside = omega arith;
+            bytes = put-more encodeEntry length-entry (entriesOf s) d whole part r i (omega (arith, count-entries)) (w .bytes) e;
+          }
+
 -- the board record has 32 bytes, or none
 pub length-board-part : (present : Bool) (b : Board) → length (cond present (encodeBoard b) []) ≡ cond present 32 0
 length-board-part true b = length-board b
@@ -88,13 +187,13 @@ length-table t =
     let five = length-flat encodeSem length-sem (t .sems) in
     omega arith
 
-pub length-encoded : (s : State) → Sized s → length (encoded (tableOf s)) ≡ cond (s .present) 32 0 + s .n * 32 + s .m * 32
-unfolding tableOf tasksOf semsOf
+pub length-encoded : (s : State) → Sized s → length (encoded (tableOf s)) ≡ cond (s .present) 32 0 + (s .n + s .m) * 32
+unfolding tableOf
 length-encoded s z =
     let all = length-table (tableOf s) in
-    let n : length (take (s .n) (s .tasks)) ≡ s .n = length-take-le (s .n) (s .tasks) (omega (arith, z .tasksLength, z .tasksFit)) in
-    let m : length (take (s .m) (s .sems)) ≡ s .m = length-take-le (s .m) (s .sems) (omega (arith, z .semsLength, z .semsFit)) in
-    omega arith
+    let n = length-map (tasksOf s) of-task in
+    let m = length-map (semsOf s) of-sem in
+    omega (arith, count-tasks s z, count-sems s z)
 
 -- a write that is refused, with its number, leaves the buffer as it was
 write-refused : (s : State) (buffer : List ℕ) (k : ℕ) → writeNumber s (length buffer) ≡ k → k ≢ 0 → (k ≡ writeNumber s (length buffer)) × (buffer ≡ written s buffer)
@@ -137,53 +236,38 @@ pub buffer-right : (s : State) (bytes : ℕ) → badLength bytes ≡ false → l
 unfolding badBuffer
 buffer-right s bytes h k = rw (h, le-ltb bytes (length (encoded (tableOf s))) k)
 
--- what an accepted write leaves: four parts, each put behind the one before
-module _ (s : State) (z : Sized s) (l b ts ss : List ℕ) (t : ℕ) (start : t ≡ cond (s .present) 32 0)
-    (fits : t + s .n * 32 + s .m * 32 ≤ length l)
+-- what an accepted write leaves: three parts, each put behind the one before
+module _ (s : State) (z : Sized s) (l b es : List ℕ) (t : ℕ) (start : t ≡ cond (s .present) 32 0)
+    (fits : t + (s .n + s .m) * 32 ≤ length l)
     (eb : b ≡ cond (s .present) (encodeBoard (s .board)) [])
-    (et : ts ≡ flat encodeTask (tasksOf s))
-    (es : ss ≡ flat encodeSem (semsOf s)) where
-  -- the buffer with the three parts of the records
-  abbrev three : List ℕ
-  three =
-      putMid (t + s .n * 32) (t + s .n * 32 + s .m * 32 - (t + s .n * 32))
-      (putMid t (t + s .n * 32 - t) (putMid 0 (t - 0) l b) ts) ss
+    (ee : es ≡ flat encodeTask (tasksOf s) ++ flat encodeSem (semsOf s)) where
+  abbrev end : ℕ
+  end = t + (s .n + s .m) * 32
 
-  three-parts : three ≡ encoded (tableOf s) ++ drop (t + s .n * 32 + s .m * 32) l
-  unfolding encoded tableOf tasksOf semsOf
-  three-parts =
-      let sems = t + s .n * 32 in
-      let end = sems + s .m * 32 in
-      let n1 : length b ≡ t = ap length eb ∙ (length-board-part (s .present) (s .board) ∙ sym start) in
-      let n2 : length ts ≡ 32 * s .n =
-      ap length et
-      ∙ (length-flat encodeTask length-task (take (s .n) (s .tasks))
-      ∙ ap (λ (k : ℕ). 32 * k) (length-take-le (s .n) (s .tasks) (omega (arith, z .tasksLength, z .tasksFit)))) in
-      let n12 : length (b ++ ts) ≡ sems = length-append b ts ∙ omega arith in
+  -- the buffer with the two parts of the records
+  abbrev two : List ℕ
+  two = putMid t (end - t) (putMid 0 (t - 0) l b) es
+
+  two-parts : two ≡ encoded (tableOf s) ++ drop end l
+  unfolding encoded tableOf
+  two-parts =
+      let n : length b ≡ t = ap length eb ∙ (length-board-part (s .present) (s .board) ∙ sym start) in
       let first : putMid 0 (t - 0) l b ≡ b ++ drop t l = part-put [] b l 0 t refl (omega arith) in
-      let second : putMid t (sems - t) (putMid 0 (t - 0) l b) ts ≡ (b ++ ts) ++ drop sems l =
-      ap (λ (p : List ℕ). putMid t (sems - t) p ts) first ∙ part-put b ts l t sems n1 (omega arith) in
-      let third : three ≡ ((b ++ ts) ++ ss) ++ drop end l =
-      ap (λ (p : List ℕ). putMid sems (end - sems) p ss) second ∙ part-put (b ++ ts) ss l sems end n12 (omega arith) in
-      third
-      ∙ (ap (λ (p : List ℕ). p ++ drop end l) (append-assoc b ts ss)
-      ∙ (ap (λ (x : List ℕ). (x ++ (ts ++ ss)) ++ drop end l) eb
-      ∙ (ap (λ (x : List ℕ). (cond (s .present) (encodeBoard (s .board)) [] ++ (x ++ ss)) ++ drop end l) et
-      ∙ ap (λ (x : List ℕ). (cond (s .present) (encodeBoard (s .board)) [] ++ (flat encodeTask (take (s .n) (s .tasks)) ++ x)) ++ drop end l) es)))
+      ap (λ (p : List ℕ). putMid t (end - t) p es) first
+      ∙ (part-put b es l t end n (omega arith)
+      ∙ (ap (λ (x : List ℕ). (x ++ es) ++ drop end l) eb
+      ∙ ap (λ (x : List ℕ). (cond (s .present) (encodeBoard (s .board)) [] ++ x) ++ drop end l) ee))
 
-  pub all-parts : (rest : List ℕ)
-      → rest ≡ replicate (length (take (length l - (t + s .n * 32 + s .m * 32)) (drop (t + s .n * 32 + s .m * 32) three))) 255
-      → putMid (t + s .n * 32 + s .m * 32) (length l - (t + s .n * 32 + s .m * 32)) three rest
-      ≡ encoded (tableOf s) ++ replicate (length l - length (encoded (tableOf s))) 255
+  pub all-parts : (rest : List ℕ) → rest ≡ replicate (length (take (length l - end) (drop end two))) 255
+      → putMid end (length l - end) two rest ≡ encoded (tableOf s) ++ replicate (length l - length (encoded (tableOf s))) 255
   all-parts rest er =
-      let end = t + s .n * 32 + s .m * 32 in
       let done = encoded (tableOf s) in
-      let n : length done ≡ end = length-encoded s z ∙ ap (λ (k : ℕ). k + s .n * 32 + s .m * 32) (sym start) in
-      let whole : length three ≡ length l =
-      ap length three-parts ∙ (length-append done (drop end l) ∙ (ap (λ (k : ℕ). length done + k) (length-drop end l) ∙ omega arith)) in
-      let width : length (take (length l - end) (drop end three)) ≡ length l - length done =
-      length-take-le (length l - end) (drop end three) (rw (length-drop end three) (omega arith)) ∙ ap (λ (k : ℕ). length l - k) (sym n) in
-      ap (λ (p : List ℕ). putMid end (length l - end) p rest) three-parts
+      let n : length done ≡ end = length-encoded s z ∙ ap (λ (k : ℕ). k + (s .n + s .m) * 32) (sym start) in
+      let whole : length two ≡ length l =
+      ap length two-parts ∙ (length-append done (drop end l) ∙ (ap (λ (k : ℕ). length done + k) (length-drop end l) ∙ omega arith)) in
+      let width : length (take (length l - end) (drop end two)) ≡ length l - length done =
+      length-take-le (length l - end) (drop end two) (rw (length-drop end two) (omega arith)) ∙ ap (λ (k : ℕ). length l - k) (sym n) in
+      ap (λ (p : List ℕ). putMid end (length l - end) p rest) two-parts
       ∙ (part-put done rest l end (length l) n (omega arith)
       ∙ (ap (λ (m : List ℕ). (done ++ rest) ++ m) (drop-length l)
       ∙ (append-nil (done ++ rest) ∙ ap (λ (m : List ℕ). done ++ m) (er ∙ ap (λ (k : ℕ). replicate k 255) width))))

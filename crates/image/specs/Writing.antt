@@ -6,9 +6,9 @@ use lib.Dec.{eqb, ltb}
 use lib.ListN.{length, replicate}
 use Rattle.table.specs.Refusals.{firstOf, answered}
 use Rattle.executive.specs.declared.state.State.{State}
-use Rattle.executive.specs.States.{tasksOf, semsOf}
+use Rattle.executive.specs.Tables.{Table, tableOf}
 use Rattle.records.specs.Records.{encodeTask, encodeBoard, encodeSem}
-use Rattle.image.specs.Loading.{Table, badLength}
+use Rattle.image.specs.Loading.{badLength}
 
 -- the records of a list of entries, one behind the other
 unfoldable pub flat : {A : Type 0} → (A → List ℕ) → List A → List ℕ
@@ -18,10 +18,6 @@ flat encode (x ∷ xs) = encode x ++ flat encode xs
 -- 01, "The image", order: the board record, if one was there; then the tasks; then the semaphores
 unfoldable pub encoded : Table → List ℕ
 encoded t = cond (t .present) (encodeBoard (t .board)) [] ++ (flat encodeTask (t .tasks) ++ flat encodeSem (t .sems))
-
--- the table of a state
-unfoldable pub tableOf : State → Table
-tableOf s = record { tasks = tasksOf s; sems = semsOf s; board = s .board; present = s .present }
 
 -- 9: buffer length not a multiple of 32, above 4,096, or too short
 unfoldable pub badBuffer : State → ℕ → Bool

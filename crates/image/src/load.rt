@@ -6,8 +6,8 @@ ghost use lib.Dec.{eqb};
 ghost use lib.ListN.{length};
 ghost use Rattle.table.specs.Sums.{any};
 ghost use Rattle.table.specs.WellFormed.{taskBefore};
-ghost use Rattle.image.specs.Loading.{loadOf, loadRecords, refusedLoad, finishedLoad};
-ghost use Rattle.image.specs.Loading.{startFront, frontAfter, refusalOf};
+ghost use Rattle.image.specs.Loading.{loadOf, loadRecords, refusedLoad, finishedLoad, freshTable};
+ghost use Rattle.image.specs.Fronts.{frontOf, frontAfter, frontRefusal};
 use executive::state::State;
 use records::Decoded;
 use table::Board;
@@ -15,6 +15,7 @@ use table::Sem;
 use table::Task;
 use table::limits;
 use table::numbers;
+use table::ranges;
 
 // What loading hands back: the state, the number, and the place of the record that was refused.
 pub struct Loaded {
@@ -62,7 +63,8 @@ fn load_records(image: &[u8]) -> Loaded
     requires { ⌜ length (now image) % 32 ≡ 0 ⌝ }
     ensures { λ r. ⌜ r ≡ loadRecords (now (image .entry)) ⌝ }
 {
-    let mut state = State::fresh();
+    let mut state = State::empty();
+    state.board = Board::built_in();
     let mut given: [u16; 64] = [0; 64];
     let mut front = Front::start();
     let mut at: usize = 0;
@@ -114,7 +116,7 @@ fn finished(state: State, count: usize) -> Loaded
 
 impl Front {
     fn start() -> Self
-        ensures { λ r. ⌜ r ≡ startFront ⌝ }
+        ensures { λ r. ⌜ r ≡ frontOf false freshTable ⌝ }
     {
         Self {
             task: Task::blank(),
@@ -156,29 +158,33 @@ impl Front {
 
     // The number of the first test that a record fails, in the order 3, 2, 4, 5, 8, 6.
     fn refusal(self, said: Decoded, given: &[u16]) -> u8
-        ensures { λ r. ⌜ r ≡ refusalOf self (λ number. any (λ x. eqb x number) (now (given .entry))) said ⌝ }
+        ensures { λ r. ⌜ r ≡ frontRefusal self (λ number. any (λ x. eqb x number) (now (given .entry))) said ⌝ }
     {
         match said {
             Decoded::Erased => numbers::DONE,
             Decoded::TaskRecord(task) => self.task_refusal(task, given),
             Decoded::BoardRecord(board) => self.board_refusal(board),
             Decoded::SemRecord(sem) => self.sem_refusal(sem),
-            Decoded::Refused(number) => {
-                if self.erased {
-                    return numbers::USED_AFTER_ERASED;
-                }
-                match number {
-                    numbers::UNKNOWN_KIND => numbers::UNKNOWN_KIND,
-                    numbers::OUT_OF_RANGE => numbers::OUT_OF_RANGE,
-                    _ => numbers::DONE,
-                }
-            }
+            Decoded::Refused(number) => self.bad_refusal(number),
+        }
+    }
+
+    fn bad_refusal(self, number: u8) -> u8
+        ensures { λ r. ⌜ r ≡ frontRefusal self (λ number. false) (Decoded.Refused number) ⌝ }
+    {
+        if self.erased {
+            return numbers::USED_AFTER_ERASED;
+        }
+        match number {
+            numbers::UNKNOWN_KIND => numbers::UNKNOWN_KIND,
+            numbers::OUT_OF_RANGE => numbers::OUT_OF_RANGE,
+            _ => numbers::DONE,
         }
     }
 
     fn task_refusal(self, task: Task, given: &[u16]) -> u8
         ensures { λ r.
-            ⌜ r ≡ refusalOf self (λ k. any (λ x. eqb x k) (now (given .entry))) (Decoded.TaskRecord task) ⌝ }
+            ⌜ r ≡ frontRefusal self (λ k. any (λ x. eqb x k) (now (given .entry))) (Decoded.TaskRecord task) ⌝ }
     {
         if self.erased {
             return numbers::USED_AFTER_ERASED;
@@ -206,11 +212,11 @@ impl Front {
             return true;
         }
         let before = self.task;
-        stands_before(before, task)
+        ranges::task_before(before, task)
     }
 
     fn board_refusal(self, board: Board) -> u8
-        ensures { λ r. ⌜ r ≡ refusalOf self (λ number. false) (Decoded.BoardRecord board) ⌝ }
+        ensures { λ r. ⌜ r ≡ frontRefusal self (λ number. false) (Decoded.BoardRecord board) ⌝ }
     {
         if self.erased {
             return numbers::USED_AFTER_ERASED;
@@ -228,7 +234,7 @@ impl Front {
     }
 
     fn sem_refusal(self, sem: Sem) -> u8
-        ensures { λ r. ⌜ r ≡ refusalOf self (λ number. false) (Decoded.SemRecord sem) ⌝ }
+        ensures { λ r. ⌜ r ≡ frontRefusal self (λ number. false) (Decoded.SemRecord sem) ⌝ }
     {
         if self.erased {
             return numbers::USED_AFTER_ERASED;
@@ -238,7 +244,7 @@ impl Front {
             return numbers::DONE;
         }
         let before = self.sem;
-        if before.number >= sem.number {
+        if !ranges::sem_before(before, sem) {
             return numbers::ORDER_BROKEN;
         }
         if self.m >= limits::SEMS {
@@ -246,22 +252,6 @@ impl Front {
         }
         numbers::DONE
     }
-}
-
-// Tasks stand by rising period, equal periods by rising number, queues never falling.
-fn stands_before(a: Task, b: Task) -> bool
-    ensures { λ r. ⌜ r ≡ taskBefore a b ⌝ }
-{
-    if a.queue > b.queue {
-        return false;
-    }
-    if a.period < b.period {
-        return true;
-    }
-    if a.period > b.period {
-        return false;
-    }
-    a.number < b.number
 }
 
 // Whether one of the numbers given so far is this one.

@@ -1,8 +1,8 @@
 // Writing: the records, then 255 in every byte that remains.
 ghost use mathlib.Core.Path.{_≡_};
 ghost use mathlib.Core.Bool.{cond};
-ghost use mathlib.Core.List.{[]};
-ghost use Prim.Native.Nat.{_*_};
+ghost use mathlib.Core.List.{[], _++_};
+ghost use Prim.Native.Nat.{_+_, _*_};
 ghost use lib.ListN.{length};
 ghost use Rattle.executive.specs.States.{tasksOf, semsOf};
 ghost use Rattle.executive.specs.Sound.{Sized};
@@ -30,16 +30,14 @@ pub fn write(state: State, buf: &mut [u8]) -> u8
     if length > limits::IMAGE {
         return numbers::BUFFER_LENGTH;
     }
-    let tasks = board_length(state.present);
-    let sems = tasks + n * limits::RECORD;
-    let end = sems + m * limits::RECORD;
+    let start = board_length(state.present);
+    let end = start + (n + m) * limits::RECORD;
     if length < end {
         return numbers::BUFFER_LENGTH;
     }
     let board = state.board;
-    put_board(state.present, board, &mut buf[0..tasks]);
-    put_tasks(state, &mut buf[tasks..sems]);
-    put_sems(state, &mut buf[sems..end]);
+    put_board(state.present, board, &mut buf[0..start]);
+    put_entries(state, &mut buf[start..end]);
     fields::fill(&mut buf[end..length], records::ERASED);
     numbers::DONE
 }
@@ -63,32 +61,26 @@ fn put_board(present: bool, board: Board, part: &mut [u8])
     }
 }
 
-fn put_tasks(state: State, part: &mut [u8])
-    requires { ⌜ Sized state × (length (now part) ≡ 32 * state .n) ⌝ }
-    ensures { λ _. ⌜ now (part .exit) ≡ flat encodeTask (tasksOf state) ⌝ }
+// The tasks, then the semaphores, one record each.
+fn put_entries(state: State, part: &mut [u8])
+    requires { ⌜ Sized state × (length (now part) ≡ 32 * (state .n + state .m)) ⌝ }
+    ensures { λ _. ⌜ now (part .exit) ≡ flat encodeTask (tasksOf state) ++ flat encodeSem (semsOf state) ⌝ }
 {
     let n = state.n;
-    let mut i: usize = 0;
-    while i < n {
+    let count = n + state.m;
+    let mut next: usize = 0;
+    while next < count {
+        let i = next;
         let at = i * limits::RECORD;
         let end = at + limits::RECORD;
-        let task = state.tasks[i];
-        records::put_task(task, &mut part[at..end]);
-        i += 1;
-    }
-}
-
-fn put_sems(state: State, part: &mut [u8])
-    requires { ⌜ Sized state × (length (now part) ≡ 32 * state .m) ⌝ }
-    ensures { λ _. ⌜ now (part .exit) ≡ flat encodeSem (semsOf state) ⌝ }
-{
-    let m = state.m;
-    let mut i: usize = 0;
-    while i < m {
-        let at = i * limits::RECORD;
-        let end = at + limits::RECORD;
-        let sem = state.sems[i];
-        records::put_sem(sem, &mut part[at..end]);
-        i += 1;
+        next = i + 1;
+        if i < n {
+            let task = state.tasks[i];
+            records::put_task(task, &mut part[at..end]);
+        } else {
+            let k = i - n;
+            let sem = state.sems[k];
+            records::put_sem(sem, &mut part[at..end]);
+        }
     }
 }

@@ -3,18 +3,19 @@
 use Prim.Native.Nat.{ℕ, _+_, _≤_}
 use mathlib.Core.Path.{_≡_, refl, sym, ap, _∙_}
 use mathlib.Core.Logic.{_⊎_, inl, inr}
-use mathlib.Core.Bool.{Bool, true, false, cond, _&&_}
+use mathlib.Core.Bool.{Bool, true, false, cond, not, _&&_}
 use mathlib.Core.List.{List, [], _∷_, _++_}
 use native.Mathlib.Omega.{arith}
 use lib.Dec.{eqb}
 use lib.ListN.{length, getD, take, drop, set, replicate, length-drop}
 use lib.Seq.{take-all}
-use borrow.Author.Tests.{eqb-true}
+use borrow.Author.Tests.{eqb-true, not-true, not-false}
 use Rattle.table.specs.declared.Task.{Task}
 use Rattle.table.specs.declared.Sem.{Sem}
 use Rattle.table.specs.declared.Board.{Board}
 use Rattle.table.specs.declared.Status.the-variants.{Idle}
 use Rattle.table.specs.declared.Holder.the-variants.{Free}
+use Rattle.table.specs.Entries.{loadedTask, loadedSem}
 use Rattle.table.specs.WellFormed.{taskInRange, semInRange, boardInRange}
 use Rattle.table.proofs.SumLaws.{both, both-left, both-right}
 use Rattle.table.proofs.OrderLaws.{within-true, task-range, board-range}
@@ -22,7 +23,7 @@ use Rattle.fields.specs.Fields.{bytesOf, readAt, putAt, allAre}
 use Rattle.fields.proofs.ByteLaws.{read-back, valueOf-bytesOf, all-replicate, all-stop}
 use Rattle.records.specs.declared.Decoded.{Decoded}
 use Rattle.records.specs.declared.Decoded.the-variants.{Erased, TaskRecord, BoardRecord, SemRecord, Refused}
-use Rattle.records.specs.Records.{Bytes, taskIn, boardIn, semIn, unlessOutOfRange, taskDecoded, boardDecoded, semDecoded, decoded, loadedTask, loadedSem, encodeTask, encodeBoard, encodeSem}
+use Rattle.records.specs.Records.{Bytes, taskIn, boardIn, semIn, unlessOutOfRange, taskDecoded, boardDecoded, semDecoded, decoded, encodeTask, encodeBoard, encodeSem}
 
 -- 32 zeros, with the kind and the fields of an entry put into them, are the entry's bytes
 pub task-put : (t : Task)
@@ -86,26 +87,31 @@ sem-back r n bytes kind second rest =
     ap (λ (m : List ℕ). 3 ∷ 0 ∷ (bytesOf 2 (readAt 2 r 2) ++ m)) (zeros r 4 28 rest n)
     ∙ (ap (λ (m : List ℕ). 3 ∷ 0 ∷ m) (read-back r 2 2 (omega arith) bytes) ∙ two-back r (omega arith) 3 0 kind second)
 
--- a conjunction with a half that does not hold
-pub neither-left : (a b : Bool) → a ≡ false → (a && b) ≡ false
-neither-left a b h = rw h
-
-pub neither-right : (a b : Bool) → b ≡ false → (a && b) ≡ false
-neither-right true b h = h
-neither-right false b h = refl
-
--- a record out of its ranges, and one within them
-pub refused-4 : (fits : Bool) (d : Decoded) → fits ≡ false → Refused 4 ≡ unlessOutOfRange fits d
-unfolding unlessOutOfRange
-refused-4 fits d h = rw h
-
-pub taken-as : (fits : Bool) (d : Decoded) → fits ≡ true → d ≡ unlessOutOfRange fits d
+-- a record within its ranges
+taken-as : (fits : Bool) (d : Decoded) → fits ≡ true → d ≡ unlessOutOfRange fits d
 unfolding unlessOutOfRange
 taken-as fits d h = rw h
 
--- the end of a list is a part of it
-pub rest-whole : (r : List ℕ) (at n : ℕ) → length r ≡ at + n → take n (drop at r) ≡ drop at r
-rest-whole r at n h = take-all n (drop at r) (rw (length-drop at r) (omega arith))
+-- what the code asks of a record's bytes is what the definition asks, whatever the kind: an entry that was found in them, in range or not, and
+-- the bytes behind its fields
+module _ (second : ℕ) {A : Type 0} (inRange : A → Bool) (say : A → Decoded) (found entry : A) (same : found ≡ entry)
+    (range : Bool) (ranged : range ≡ inRange found) (r : List ℕ) (at n : ℕ) (long : length r ≡ at + n)
+    (result : Bool) (asked : result ≡ (eqb second 0 && range && allAre 0 (take n (drop at r)))) where
+  clean-so : result ≡ (eqb second 0 && inRange entry && allAre 0 (drop at r))
+  clean-so =
+      let rest : take n (drop at r) ≡ drop at r = take-all n (drop at r) (rw (length-drop at r) (omega arith)) in
+      asked
+      ∙ (ap (λ (b : Bool). eqb second 0 && b && allAre 0 (take n (drop at r))) (ranged ∙ ap inRange same)
+      ∙ ap (λ (l : List ℕ). eqb second 0 && inRange entry && allAre 0 l) rest)
+
+  pub says-refused : not result ≡ true → Refused 4 ≡ unlessOutOfRange (eqb second 0 && inRange entry && allAre 0 (drop at r)) (say entry)
+  unfolding unlessOutOfRange
+  says-refused h = rw (sym clean-so ∙ not-true result h)
+
+  pub says-entry : not result ≡ false → say found ≡ unlessOutOfRange (eqb second 0 && inRange entry && allAre 0 (drop at r)) (say entry)
+  says-entry h =
+      ap say same
+      ∙ taken-as (eqb second 0 && inRange entry && allAre 0 (drop at r)) (say entry) (sym clean-so ∙ not-false result h)
 
 -- a record whose first byte is not 255 is not erased
 pub not-erased : (r : List ℕ) → 1 ≤ length r → (getD r 0 0 ≡ 255 → ⊥) → allAre 255 r ≡ false
@@ -225,13 +231,29 @@ module _ (r : List ℕ) (n : length r ≡ 32) (bytes : Bytes r) where
       whole false h = first (eqb (getD r 0 0) 1) refl
 
 -- a record is refused with 2 or with 4
-pub refused-number : {r : List ℕ} {d : Decoded} → Said r d → (k : ℕ) → d ≡ Refused k → (k ≡ 2) ⊎ (k ≡ 4)
-refused-number unknown k e = inl (cc)
-refused-number bad k e = inr (cc)
-refused-number (erased h) k e = let z : _≡_ {A = ℕ} 0 1 = cc in absurd (omega arith)
-refused-number (task h i j) k e = let z : _≡_ {A = ℕ} 0 1 = cc in absurd (omega arith)
-refused-number (board h i) k e = let z : _≡_ {A = ℕ} 0 1 = cc in absurd (omega arith)
-refused-number (sem h i j) k e = let z : _≡_ {A = ℕ} 0 1 = cc in absurd (omega arith)
+abbrev pub Plain : Decoded → Type 0
+Plain Erased = Unit
+Plain (TaskRecord t) = Unit
+Plain (BoardRecord b) = Unit
+Plain (SemRecord s) = Unit
+Plain (Refused k) = (k ≡ 2) ⊎ (k ≡ 4)
+
+one-of : (b : Bool) (d e : Decoded) → Plain d → Plain e → Plain (cond b d e)
+one-of true d e p q = p
+one-of false d e p q = q
+
+pub plain : (r : List ℕ) → Plain (decoded r)
+unfolding decoded taskDecoded boardDecoded semDecoded unlessOutOfRange
+plain r =
+    let kind : ℕ → Bool = λ k. eqb (getD r 0 0) k in
+    let third = cond (kind 3) (semDecoded r) (Refused 2) in
+    let second = cond (kind 2) (boardDecoded r) third in
+    let first = cond (kind 1) (taskDecoded r) second in
+    let entry : (fits : Bool) (d : Decoded) → Plain d → Plain (cond fits d (Refused 4)) = λ fits d p. one-of fits d (Refused 4) p (inr refl) in
+    one-of (allAre 255 r) Erased first tt
+    (one-of (kind 1) (taskDecoded r) second (entry (taskInRange (taskIn r) && allAre 0 (drop 12 r)) (TaskRecord (taskIn r)) tt)
+    (one-of (kind 2) (boardDecoded r) third (entry (eqb (getD r 1 0) 0 && boardInRange (boardIn r) && allAre 0 (drop 20 r)) (BoardRecord (boardIn r)) tt)
+    (one-of (kind 3) (semDecoded r) (Refused 2) (entry (eqb (getD r 1 0) 0 && semInRange (semIn r) && allAre 0 (drop 4 r)) (SemRecord (semIn r)) tt) (inl refl))))
 
 -- every record has 32 bytes
 pub length-task : (t : Task) → length (encodeTask t) ≡ 32

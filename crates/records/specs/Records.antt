@@ -9,7 +9,6 @@ use Rattle.table.specs.declared.Sem.{Sem}
 use Rattle.table.specs.declared.Board.{Board}
 use Rattle.table.specs.declared.Status.the-variants.{Idle}
 use Rattle.table.specs.declared.Holder.the-variants.{Free}
-use Rattle.table.specs.Entries.{withStatus, withDeadline, withHolder}
 use Rattle.table.specs.WellFormed.{taskInRange, semInRange, boardInRange}
 use Rattle.fields.specs.Fields.{bytesOf, readAt, allAre}
 use Rattle.records.specs.declared.Decoded.{Decoded}
@@ -70,14 +69,6 @@ decoded r =
     (cond (eqb (getD r 0 0) 2) (boardDecoded r)
     (cond (eqb (getD r 0 0) 3) (semDecoded r)
     (Refused 2))))
-
--- 01, "Dispatch": all tasks are idle after loading, and a task not yet released has deadline 0
-abbrev pub loadedTask : Task → Task
-loadedTask t = withDeadline (withStatus t Idle) 0
-
--- no semaphore is held after loading
-abbrev pub loadedSem : Sem → Sem
-loadedSem s = withHolder s Free
 
 -- the bytes of a task, of a board and of a semaphore, as 01's table prints them
 unfoldable pub encodeTask : Task → List ℕ

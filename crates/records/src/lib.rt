@@ -1,18 +1,18 @@
 // One record of an image, 32 bytes: its kind, its fields and their ranges, and back.
 ghost use mathlib.Core.Path.{_≡_};
-ghost use mathlib.Core.Bool.{cond};
+ghost use mathlib.Core.Bool.{cond, _&&_};
+ghost use lib.Dec.{eqb};
 ghost use lib.ListN.{length};
 ghost use Rattle.fields.specs.Fields.{allAre};
-ghost use Rattle.table.specs.WellFormed.{taskInRange, boardInRange};
 ghost use Rattle.records.specs.Records.{decoded, taskDecoded, boardDecoded, semDecoded};
-ghost use Rattle.records.specs.Records.{boardIn, encodeTask, encodeBoard, encodeSem};
+ghost use Rattle.records.specs.Records.{taskIn, boardIn, semIn, encodeTask, encodeBoard, encodeSem};
 use table::Board;
 use table::Holder;
 use table::Sem;
 use table::Status;
 use table::Task;
-use table::limits;
 use table::numbers;
+use table::ranges;
 
 // What a record says: erased, one entry of the table, or the number with which it is refused.
 pub enum Decoded {
@@ -50,48 +50,11 @@ fn decode_task(part: &[u8]) -> Decoded
     requires { ⌜ length (now part) ≡ 32 ⌝ }
     ensures { λ r. ⌜ r ≡ taskDecoded (now (part .entry)) ⌝ }
 {
-    let task = Task {
-        deadline: 0,
-        period: fields::u32_at(part, 4),
-        cost: fields::u32_at(part, 8),
-        number: fields::u16_at(part, 2),
-        queue: part[1],
-        status: Status::Idle,
-    };
-    if !task_in_range(task) {
-        return Decoded::Refused(numbers::OUT_OF_RANGE);
-    }
-    if !fields::all_are(&part[12..32], 0) {
+    let task = task_at(part);
+    if !clean(0, ranges::task_in_range(task), &part[12..32]) {
         return Decoded::Refused(numbers::OUT_OF_RANGE);
     }
     Decoded::TaskRecord(task)
-}
-
-fn task_in_range(task: Task) -> bool
-    ensures { λ r. ⌜ r ≡ taskInRange task ⌝ }
-{
-    let queue = task.queue;
-    match queue {
-        1..=3 => {
-            if task.number < 1 {
-                return false;
-            }
-            if task.period < limits::PERIOD_LEAST {
-                return false;
-            }
-            if task.period > limits::PERIOD_MOST {
-                return false;
-            }
-            if task.cost < 1 {
-                return false;
-            }
-            if task.cost > task.period {
-                return false;
-            }
-            true
-        }
-        _ => false,
-    }
 }
 
 fn decode_board(part: &[u8]) -> Decoded
@@ -99,16 +62,48 @@ fn decode_board(part: &[u8]) -> Decoded
     ensures { λ r. ⌜ r ≡ boardDecoded (now (part .entry)) ⌝ }
 {
     let board = board_at(part);
-    if part[1] != 0 {
-        return Decoded::Refused(numbers::OUT_OF_RANGE);
-    }
-    if !board_in_range(board) {
-        return Decoded::Refused(numbers::OUT_OF_RANGE);
-    }
-    if !fields::all_are(&part[20..32], 0) {
+    if !clean(part[1], ranges::board_in_range(board), &part[20..32]) {
         return Decoded::Refused(numbers::OUT_OF_RANGE);
     }
     Decoded::BoardRecord(board)
+}
+
+fn decode_sem(part: &[u8]) -> Decoded
+    requires { ⌜ length (now part) ≡ 32 ⌝ }
+    ensures { λ r. ⌜ r ≡ semDecoded (now (part .entry)) ⌝ }
+{
+    let sem = sem_at(part);
+    if !clean(part[1], ranges::sem_in_range(sem), &part[4..32]) {
+        return Decoded::Refused(numbers::OUT_OF_RANGE);
+    }
+    Decoded::SemRecord(sem)
+}
+
+// What every kind asks: byte 1, where it is a zero byte, the fields in their ranges, and zeros behind them.
+fn clean(second: u8, in_range: bool, rest: &[u8]) -> bool
+    ensures { λ r. ⌜ r ≡ (eqb second 0 && in_range && allAre 0 (now (rest .entry))) ⌝ }
+{
+    if second != 0 {
+        return false;
+    }
+    if !in_range {
+        return false;
+    }
+    fields::all_are(rest, 0)
+}
+
+fn task_at(part: &[u8]) -> Task
+    requires { ⌜ length (now part) ≡ 32 ⌝ }
+    ensures { λ r. ⌜ r ≡ taskIn (now (part .entry)) ⌝ }
+{
+    Task {
+        deadline: 0,
+        period: fields::u32_at(part, 4),
+        cost: fields::u32_at(part, 8),
+        number: fields::u16_at(part, 2),
+        queue: part[1],
+        status: Status::Idle,
+    }
 }
 
 fn board_at(part: &[u8]) -> Board
@@ -128,57 +123,14 @@ fn board_at(part: &[u8]) -> Board
     }
 }
 
-fn board_in_range(b: Board) -> bool
-    ensures { λ r. ⌜ r ≡ boardInRange b ⌝ }
-{
-    if b.dp_block > limits::FIGURE_MOST {
-        return false;
-    }
-    if b.dp_unblock > limits::FIGURE_MOST {
-        return false;
-    }
-    if b.dp_select > limits::FIGURE_MOST {
-        return false;
-    }
-    if b.dp_select_task > limits::FIGURE_MOST {
-        return false;
-    }
-    if b.fp_block > limits::FIGURE_MOST {
-        return false;
-    }
-    if b.fp_block_task > limits::FIGURE_MOST {
-        return false;
-    }
-    if b.fp_unblock > limits::FIGURE_MOST {
-        return false;
-    }
-    if b.fp_select > limits::FIGURE_MOST {
-        return false;
-    }
-    if b.per_queue > limits::FIGURE_MOST {
-        return false;
-    }
-    true
-}
-
-fn decode_sem(part: &[u8]) -> Decoded
+fn sem_at(part: &[u8]) -> Sem
     requires { ⌜ length (now part) ≡ 32 ⌝ }
-    ensures { λ r. ⌜ r ≡ semDecoded (now (part .entry)) ⌝ }
+    ensures { λ r. ⌜ r ≡ semIn (now (part .entry)) ⌝ }
 {
-    let number = fields::u16_at(part, 2);
-    if part[1] != 0 {
-        return Decoded::Refused(numbers::OUT_OF_RANGE);
-    }
-    if number < 1 {
-        return Decoded::Refused(numbers::OUT_OF_RANGE);
-    }
-    if !fields::all_are(&part[4..32], 0) {
-        return Decoded::Refused(numbers::OUT_OF_RANGE);
-    }
-    Decoded::SemRecord(Sem {
-        number,
+    Sem {
+        number: fields::u16_at(part, 2),
         holder: Holder::Free,
-    })
+    }
 }
 
 // A record whose first byte is 255: erased if every byte is, else of unknown kind.

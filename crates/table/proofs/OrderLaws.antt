@@ -1,8 +1,8 @@
 -- The laws of ranges and of order: what the tests of a well-formed table say of its numbers.
 -- Assumes nothing.
-use Prim.Native.Nat.{ℕ, zero, suc, _+_, _≤_, _<_}
+use Prim.Native.Nat.{ℕ, zero, suc, _≤_, _<_}
 use mathlib.Core.Path.{_≡_, refl, sym, ap, _∙_}
-use mathlib.Core.Bool.{Bool, true, false, not, _&&_, _||_}
+use mathlib.Core.Bool.{Bool, true, false, not, _&&_}
 use mathlib.Core.List.{List, [], _∷_, map}
 use native.Mathlib.Nat.{le-of-suc-le-suc, not-suc-le-zero}
 use native.Mathlib.Omega.{arith}
@@ -250,3 +250,14 @@ well-formed-same tasks tasks' sems sems' board present t s w =
     alike : {A : Type 0} (f : A → A) (test : List A → Bool) → ((l : List A) → test (map f l) ≡ test l) → (l l' : List A) → map f l' ≡ map f l
         → test l' ≡ test l
     alike f test sees l l' e = sym (sees l') ∙ ap test e ∙ sees l
+
+-- so a table stays well formed with its entries as they are after loading
+pub well-formed-loaded : (tasks : List Task) (sems : List Sem) (board : Board) (present : Bool) → WellFormed tasks sems board present
+    → WellFormed (map loadedTask tasks) (map loadedSem sems) board present
+well-formed-loaded tasks sems board present w =
+    well-formed-same tasks (map loadedTask tasks) sems (map loadedSem sems) board present (again loadedTask (λ x. refl) tasks)
+    (again loadedSem (λ x. refl) sems) w
+  where
+    again : {A : Type 0} (f : A → A) → ((x : A) → f (f x) ≡ f x) → (l : List A) → map f (map f l) ≡ map f l
+    again f same [] = refl
+    again {A} f same (x ∷ xs) = ap (λ (y : A). y ∷ map f (map f xs)) (same x) ∙ ap (λ (l : List A). f x ∷ l) (again f same xs)

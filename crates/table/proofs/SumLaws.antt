@@ -4,7 +4,7 @@ use Prim.Native.Nat.{ℕ, zero, suc, _+_, _*_, _≤_, _<_}
 use mathlib.Core.Path.{_≡_, refl, sym, ap, _∙_}
 use mathlib.Core.Bool.{Bool, true, false, cond, _&&_, _||_}
 use mathlib.Core.List.{List, [], _∷_, _++_, map}
-use native.Mathlib.Nat.{add-assoc, zero-add, add-zero, le-refl, le-of-suc-le-suc, not-suc-le-zero, zero-mul, suc-mul}
+use native.Mathlib.Nat.{add-assoc, zero-add, add-zero, le-of-suc-le-suc, not-suc-le-zero, zero-mul, suc-mul}
 use native.Mathlib.Numerals.{add-one}
 use native.Mathlib.Omega.{arith}
 use lib.ListN.{length, getD, take, drop, set, drop-of-length-le}
@@ -49,15 +49,6 @@ module _ {A : Type 0} where
       ap (λ (n : ℕ). sumOf f (take n l)) (add-one i) ∙ ap (sumOf f) (take-suc l i d h) ∙ sumOf-append f (take i l) (getD l i d ∷ [])
       ∙ ap (λ (n : ℕ). sumOf f (take i l) + n) (sumOf-one f (getD l i d))
 
-  -- equal entry by entry, equal in sum
-  pub sumOf-same : (f g : A → ℕ) (l : List A) → ((i : ℕ) → i < length l → (d : A) → f (getD l i d) ≡ g (getD l i d)) → sumOf f l ≡ sumOf g l
-  unfolding sumOf
-  sumOf-same f g [] h = refl
-  sumOf-same f g (x ∷ xs) h =
-      let a : f x ≡ g x = h 0 (omega arith) x in
-      let b : sumOf f xs ≡ sumOf g xs = sumOf-same f g xs (λ i k d. h (suc i) (omega arith) d) in
-      cc
-
   -- no entry above a bound, no sum above as many times that bound
   pub sumOf-bound : (f : A → ℕ) (b : ℕ) (l : List A) → ((i : ℕ) → i < length l → (d : A) → f (getD l i d) ≤ b) → sumOf f l ≤ length l * b
   unfolding sumOf
@@ -66,15 +57,6 @@ module _ {A : Type 0} where
       let a : f x ≤ b = h 0 (omega arith) x in
       let k : sumOf f xs ≤ length xs * b = sumOf-bound f b xs (λ i k d. h (suc i) (omega arith) d) in
       rw (suc-mul (length xs) b) (omega arith)
-
-  -- smaller entry by entry, smaller in sum
-  pub sumOf-mono : (f g : A → ℕ) (l : List A) → ((i : ℕ) → i < length l → (d : A) → f (getD l i d) ≤ g (getD l i d)) → sumOf f l ≤ sumOf g l
-  unfolding sumOf
-  sumOf-mono f g [] h = omega arith
-  sumOf-mono f g (x ∷ xs) h =
-      let a : f x ≤ g x = h 0 (omega arith) x in
-      let b : sumOf f xs ≤ sumOf g xs = sumOf-mono f g xs (λ i k d. h (suc i) (omega arith) d) in
-      omega arith
 
   pub countOf-more : (test : A → Bool) (l : List A) (i : ℕ) (d : A) → i < length l
       → countOf test (take (i + 1) l) ≡ countOf test (take i l) + cond (test (getD l i d)) 1 0
@@ -93,12 +75,6 @@ module _ {A : Type 0} where
   every-at test [] h i k d = absurd (not-suc-le-zero k)
   every-at test (x ∷ xs) h zero k d = both-left (test x) (every test xs) h
   every-at test (x ∷ xs) h (suc i) k d = every-at test xs (both-right (test x) (every test xs) h) i (le-of-suc-le-suc k) d
-
-  pub every-all : (test : A → Bool) (l : List A) → ((i : ℕ) → i < length l → (d : A) → test (getD l i d) ≡ true) → every test l ≡ true
-  unfolding every
-  every-all test [] h = refl
-  every-all test (x ∷ xs) h =
-      both (test x) (every test xs) (h 0 (omega arith) x) (every-all test xs (λ i k d. h (suc i) (omega arith) d))
 
   pub every-append : (test : A → Bool) (xs ys : List A) → every test (xs ++ ys) ≡ (every test xs && every test ys)
   unfolding every

@@ -4,6 +4,7 @@ ghost use Rattle.table.specs.Entries.{builtIn, noFigures, blankTask, bla
 
 pub mod limits;
 pub mod numbers;
+pub mod ranges;
 
 // What a task is doing. A semaphore is named by its place in the table.
 pub enum Status {

@@ -125,7 +125,7 @@ one-more test P says d x xs rest = (there (test x) refl, λ w. back (w .0) (w .1
     back (suc k) h p = rw (rest .1 (k, omega arith, p)) (mathlib.Core.Bool.or-true (test x))
 
 -- some entry passes a test exactly if one is so: over the entry's type
-some-says : {A : Type 0} (test : A → Bool) (P : A → Type 0) → ((x : A) → (test x ≡ true) ↔ P x) → (d : A) (l : List A)
+pub some-says : {A : Type 0} (test : A → Bool) (P : A → Type 0) → ((x : A) → (test x ≡ true) ↔ P x) → (d : A) (l : List A)
     → (any test l ≡ true) ↔ ((k : ℕ) × (k < length l) × P (getD l k d))
 unfolding any
 some-says test P says d [] = (λ h. let z : _≡_ {A = ℕ} 0 1 = cc in absurd (omega arith), λ w. let k = w .1 in absurd (omega arith))

@@ -18,6 +18,7 @@ use Rattle.table.specs.declared.Found.the-variants.{At, Nothing}
 use Rattle.waits.specs.declared.standing.Rank.{Rank}
 use Rattle.waits.specs.Standing.{standingOf, runningOf, numberAt}
 use Rattle.waits.specs.Reaches.{IsStanding}
+use Rattle.executive.specs.Tables.{tableOf}
 use Rattle.executive.proofs.SoundCalls.{
   release-sound,
   signal-sound,
@@ -31,7 +32,7 @@ use Rattle.executive.proofs.SoundLaws.{tasks-length, chained, ranges, runs-belo
 use Rattle.waits.proofs.DispatchLaws as Dispatch
 use Rattle.judging.proofs.PassLaws as Pass
 use Rattle.image.specs.Loading.{badLength}
-use Rattle.image.specs.Writing.{encoded, tableOf, badBuffer, writeNumber, written}
+use Rattle.image.specs.Writing.{encoded, badBuffer, writeNumber, written}
 use Rattle.image.proofs.RoundTrips as Trips
 use Rattle.theorems.specs.Comes.{Comes, loaded, from-call}
 use Rattle.theorems.specs.Demands

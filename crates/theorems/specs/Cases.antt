@@ -13,7 +13,8 @@ use Rattle.table.specs.Entries.{builtIn, noFigures}
 use Rattle.executive.specs.declared.state.State.{State}
 use Rattle.executive.specs.States.{tasksOf, semsOf}
 use Rattle.waits.specs.Standing.{runningOf, numberAt}
-use Rattle.image.specs.Loading.{Table, loadOf}
+use Rattle.executive.specs.Tables.{Table}
+use Rattle.image.specs.Loading.{loadOf}
 use Rattle.image.specs.Writing.{encoded}
 use Rattle.charges.specs.Charges.{chargeOf}
 use Rattle.judging.specs.Verdicts.{verdictOf}

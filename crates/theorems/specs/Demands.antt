@@ -19,11 +19,12 @@ use Rattle.waits.specs.Waits.{waitsOn}
 use Rattle.waits.specs.Standing.{ownOf, better, standingOf, readyAt, runningOf, numberAt}
 use Rattle.waits.specs.Reaches.{IsStanding}
 use Rattle.executive.specs.Calls.{moved, standsOf}
+use Rattle.executive.specs.Tables.{tableOf, asLoaded}
 use Rattle.judging.specs.Verdicts.{verdictOf}
 use Rattle.judging.specs.Passes.{Passes}
 use Rattle.image.specs.Loading.{loadOf, acceptedLoad}
-use Rattle.image.specs.Writing.{encoded, tableOf, writeNumber, written}
-use Rattle.image.specs.Accepted.{Accepted, asLoaded}
+use Rattle.image.specs.Writing.{encoded, writeNumber, written}
+use Rattle.image.specs.Accepted.{Accepted}
 use Rattle.theorems.specs.Comes.{Comes}
 use Rattle.theorems.specs.Conditions.{conditionsOf}
 use Rattle.theorems.specs.Histories.{

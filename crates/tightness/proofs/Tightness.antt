@@ -42,6 +42,16 @@ use Rattle.table.proofs.Sem.blank.Reads as sem-blank
 use Rattle.table.proofs.Sem.blank.Kinds as sem-blank-kinds
 use Rattle.table.proofs.Sem.with_holder.Reads as sem-with-holder
 use Rattle.table.proofs.Sem.with_holder.Kinds as sem-with-holder-kinds
+use Rattle.table.proofs.ranges.task_in_range.Reads as task-in-range
+use Rattle.table.proofs.ranges.task_in_range.Kinds as task-in-range-kinds
+use Rattle.table.proofs.ranges.sem_in_range.Reads as sem-in-range
+use Rattle.table.proofs.ranges.sem_in_range.Kinds as sem-in-range-kinds
+use Rattle.table.proofs.ranges.board_in_range.Reads as board-in-range
+use Rattle.table.proofs.ranges.board_in_range.Kinds as board-in-range-kinds
+use Rattle.table.proofs.ranges.task_before.Reads as task-before
+use Rattle.table.proofs.ranges.task_before.Kinds as task-before-kinds
+use Rattle.table.proofs.ranges.sem_before.Reads as sem-before
+use Rattle.table.proofs.ranges.sem_before.Kinds as sem-before-kinds
 use Rattle.waits.proofs.lookup.task_place.Reads as waits-task-place
 use Rattle.waits.proofs.lookup.task_place.Kinds as waits-task-place-kinds
 use Rattle.waits.proofs.lookup.sem_place.Reads as waits-sem-place
@@ -80,8 +90,6 @@ use Rattle.executive.proofs.state.State.standing.Reads as standing
 use Rattle.executive.proofs.state.State.standing.Kinds as standing-kinds
 use Rattle.executive.proofs.state.State.empty.Reads as empty
 use Rattle.executive.proofs.state.State.empty.Kinds as empty-kinds
-use Rattle.executive.proofs.state.State.fresh.Reads as fresh
-use Rattle.executive.proofs.state.State.fresh.Kinds as fresh-kinds
 use Rattle.records.proofs.decode.Reads as decode
 use Rattle.records.proofs.decode.Kinds as decode-kinds
 use Rattle.records.proofs.put_task.Reads as record-put-task
@@ -199,6 +207,26 @@ sem-blank-one κs a z z′ e e′ p q = p ∙ sym q
 pub sem-with-holder-one : OneResult 0 sem-with-holder-kinds.ps sem-with-holder-kinds.r sem-with-holder.Post
 sem-with-holder-one κs a z z′ e e′ p q = p ∙ sym q
 
+-- table::ranges::task_in_range
+pub task-in-range-one : OneResult 0 task-in-range-kinds.ps task-in-range-kinds.r task-in-range.Post
+task-in-range-one κs a z z′ e e′ p q = p ∙ sym q
+
+-- table::ranges::sem_in_range
+pub sem-in-range-one : OneResult 0 sem-in-range-kinds.ps sem-in-range-kinds.r sem-in-range.Post
+sem-in-range-one κs a z z′ e e′ p q = p ∙ sym q
+
+-- table::ranges::board_in_range
+pub board-in-range-one : OneResult 0 board-in-range-kinds.ps board-in-range-kinds.r board-in-range.Post
+board-in-range-one κs a z z′ e e′ p q = p ∙ sym q
+
+-- table::ranges::task_before
+pub task-before-one : OneResult 0 task-before-kinds.ps task-before-kinds.r task-before.Post
+task-before-one κs a z z′ e e′ p q = p ∙ sym q
+
+-- table::ranges::sem_before
+pub sem-before-one : OneResult 0 sem-before-kinds.ps sem-before-kinds.r sem-before.Post
+sem-before-one κs a z z′ e e′ p q = p ∙ sym q
+
 -- waits::lookup::task_place
 pub waits-task-place-one : OneResult 0 waits-task-place-kinds.ps waits-task-place-kinds.r waits-task-place.Post
 waits-task-place-one κs a z z′ e e′ p q = p ∙ sym q
@@ -274,10 +302,6 @@ standing-one κs a z z′ e e′ p q = p ∙ sym q
 -- executive::state::State::empty
 pub empty-one : OneResult 0 empty-kinds.ps empty-kinds.r empty.Post
 empty-one κs a z z′ e e′ p q = p ∙ sym q
-
--- executive::state::State::fresh
-pub fresh-one : OneResult 0 fresh-kinds.ps fresh-kinds.r fresh.Post
-fresh-one κs a z z′ e e′ p q = p ∙ sym q
 
 -- records::decode
 pub decode-one : OneResult 1 decode-kinds.ps decode-kinds.r decode.Post

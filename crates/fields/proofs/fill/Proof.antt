@@ -1,7 +1,7 @@
 -- `fields::fill` meets its contract: after as many turns the first bytes are b and the others as they were.
 -- Assumes nothing.
 use Prim.Native.Nat.{ℕ, _≤_, _-_}
-use mathlib.Core.Path.{_≡_, refl, sym, ap, _∙_}
+use mathlib.Core.Path.{_≡_, refl, ap, _∙_}
 use mathlib.Core.List.{List, _++_, append-nil}
 use native.Mathlib.Omega.{arith}
 use denote.Ref.{now}

@@ -1,12 +1,11 @@
 -- `image::load::finished` meets its contract: 7 without a task, else the state.
 -- Assumes nothing.
-use Prim.Native.Nat.{_-_}
+use mathlib.Core.List.{[]}
 use mathlib.Core.Path.{sym, ap, _∙_}
 use native.Mathlib.Omega.{arith}
 use lib.Dec.{eqb}
 use borrow.Author.Tests.{eq-eqb, ne-eqb}
 use Prim.Native.Nat.{ℕ}
-use mathlib.Core.List.{[]}
 use Rattle.table.specs.Refusals.{firstOf, answered}
 use Rattle.table.proofs.RefusalLaws.{answered-refused, answered-done, firstOf-here, firstOf-past, firstOf-none}
 use Rattle.image.specs.Loading.{refusedLoad, acceptedLoad, finishedLoad}

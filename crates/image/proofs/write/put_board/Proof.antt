@@ -1,8 +1,8 @@
 -- `image::write::put_board` meets its contract: the board record, or nothing.
 -- Assumes nothing.
+use mathlib.Core.List.{[]}
 use mathlib.Core.Path.{_≡_, sym, ap, _∙_}
 use mathlib.Core.Bool.{Bool, cond}
-use mathlib.Core.List.{[]}
 use denote.Ref.{now}
 use lib.ListN.{length}
 use Rattle.records.specs.Records.{encodeBoard}

@@ -2,7 +2,7 @@
 -- Assumes nothing.
 use mathlib.Core.Path.{sym, ap}
 use borrow.Author.Needs.{needs}
-use Rattle.image.specs.Loading.{frontAfter}
+use Rattle.image.specs.Fronts.{frontAfter}
 use Rattle.image.proofs.load.Front.after.Statement.{statement}
 use Rattle.image.proofs.load.Front.after.Tie as tie
 

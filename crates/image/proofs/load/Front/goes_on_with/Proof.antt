@@ -10,12 +10,12 @@ returns : tie.Need-returns
 returns c =
     let f = c .before .before .args .self in sym (simp (eq-eqb (f .n) 0 (c .if1 .taken)))
 
-stands-before-requires : tie.Need-stands-before-requires
-stands-before-requires c κs = search needs
+task-before-requires : tie.Need-task-before-requires
+task-before-requires c κs = search needs
 
 returns-2 : tie.Need-returns-2
 returns-2 c =
-    let f = c .before .before .before .before .args .self in c .stands-before .ensures ∙ sym (simp (ne-eqb (f .n) 0 (c .before .before .if1 .left)))
+    let f = c .before .before .before .before .args .self in c .task-before .ensures ∙ sym (simp (ne-eqb (f .n) 0 (c .before .before .if1 .left)))
 
 pub goes-on-with-spec : {M : Type 1} → statement M
-goes-on-with-spec = tie.close (tie.spec returns stands-before-requires returns-2)
+goes-on-with-spec = tie.close (tie.spec returns task-before-requires returns-2)

@@ -10,17 +10,18 @@ use borrow.Author.Needs.{needs}
 use Rattle.table.specs.Refusals.{firstOf}
 use Rattle.table.specs.Sums.{any}
 use Rattle.table.specs.WellFormed.{taskBefore}
-use Rattle.image.specs.Loading.{refusalOf, usedAfter, refusedAs, orderBroken, numberTwice, tooMany}
+use Rattle.image.specs.Loading.{usedAfter, refusedAs}
+use Rattle.image.specs.Fronts.{frontBroken, frontTwice, frontFull, frontRefusal}
 use Rattle.image.proofs.load.Front.task_refusal.Statement.{statement}
 use Rattle.image.proofs.load.Front.task_refusal.Tie as tie
 
 returns : tie.Need-returns
-unfolding refusalOf firstOf usedAfter refusedAs orderBroken numberTwice tooMany
+unfolding frontRefusal firstOf usedAfter refusedAs frontBroken frontTwice frontFull
 returns c =
     sym (simp (c .if1 .taken))
 
 returns-2 : tie.Need-returns-2
-unfolding refusalOf firstOf usedAfter refusedAs orderBroken numberTwice tooMany
+unfolding frontRefusal firstOf usedAfter refusedAs frontBroken frontTwice frontFull
 returns-2 c =
     let f = c .before .before .before .before .args .self in sym (simp (c .before .before .if1 .left, ne-eqb (f .m) 0 (c .if2 .taken)))
 
@@ -28,7 +29,7 @@ goes-on-with-requires : tie.Need-goes-on-with-requires
 goes-on-with-requires c κs = search needs
 
 returns-3 : tie.Need-returns-3
-unfolding refusalOf firstOf usedAfter refusedAs orderBroken numberTwice tooMany
+unfolding frontRefusal firstOf usedAfter refusedAs frontBroken frontTwice frontFull
 returns-3 c =
     let f = c .before .before .before .before .before .before .args .self in
     let x = c .before .before .before .before .before .before .args .task in
@@ -39,7 +40,7 @@ number-given-requires : tie.Need-number-given-requires
 number-given-requires c κs = search needs
 
 returns-4 : tie.Need-returns-4
-unfolding refusalOf firstOf usedAfter refusedAs orderBroken numberTwice tooMany
+unfolding frontRefusal firstOf usedAfter refusedAs frontBroken frontTwice frontFull
 returns-4 c =
     let f = c .before .before .before .before .before .before .before .before .args .self in
     let x = c .before .before .before .before .before .before .before .before .args .task in
@@ -48,7 +49,7 @@ returns-4 c =
     sym (simp (c .before .before .before .before .before .before .if1 .left, eq-eqb (f .m) 0 (c .before .before .before .before .if2 .left), fine, twice))
 
 returns-5 : tie.Need-returns-5
-unfolding refusalOf firstOf usedAfter refusedAs orderBroken numberTwice tooMany
+unfolding frontRefusal firstOf usedAfter refusedAs frontBroken frontTwice frontFull
 returns-5 c =
     let f = c .before .before .before .before .before .before .before .before .before .before .args .self in
     let x = c .before .before .before .before .before .before .before .before .before .before .args .task in
@@ -57,7 +58,7 @@ returns-5 c =
     sym (simp (c .before .before .before .before .before .before .before .before .if1 .left, eq-eqb (f .m) 0 (c .before .before .before .before .before .before .if2 .left), fine, new, le-leb 64 (f .n) (omega arith)))
 
 returns-6 : tie.Need-returns-6
-unfolding refusalOf firstOf usedAfter refusedAs orderBroken numberTwice tooMany
+unfolding frontRefusal firstOf usedAfter refusedAs frontBroken frontTwice frontFull
 returns-6 c =
     let f = c .before .before .before .before .before .before .before .before .before .before .args .self in
     let x = c .before .before .before .before .before .before .before .before .before .before .args .task in

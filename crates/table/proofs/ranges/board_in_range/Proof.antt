@@ -1,47 +1,46 @@
--- `records::board_in_range` meets its contract: each test is the bound of one figure.
+-- `table::ranges::board_in_range` meets its contract: each test is the bound of one figure.
 -- Assumes nothing.
 use mathlib.Core.Path.{sym}
 use native.Mathlib.Omega.{arith}
-use Rattle.table.specs.WellFormed.{boardInRange}
-use Rattle.table.proofs.OrderLaws.{board-range, board-in-range, not-so}
-use Rattle.records.proofs.board_in_range.Statement.{statement}
-use Rattle.records.proofs.board_in_range.Tie as tie
+use Rattle.table.proofs.OrderLaws.{board-in-range, board-out}
+use Rattle.table.proofs.ranges.board_in_range.Statement.{statement}
+use Rattle.table.proofs.ranges.board_in_range.Tie as tie
 
 returns : tie.Need-returns
 returns c =
-    let b = c .before .before .args .b in sym (not-so (boardInRange b) (λ h. let r = board-range b h in omega arith))
+    board-out (c .before .before .args .b) (λ r. omega arith)
 
 returns-2 : tie.Need-returns-2
 returns-2 c =
-    let b = c .before .before .before .before .args .b in sym (not-so (boardInRange b) (λ h. let r = board-range b h in omega arith))
+    board-out (c .before .before .before .before .args .b) (λ r. omega arith)
 
 returns-3 : tie.Need-returns-3
 returns-3 c =
-    let b = c .before .before .before .before .before .before .args .b in sym (not-so (boardInRange b) (λ h. let r = board-range b h in omega arith))
+    board-out (c .before .before .before .before .before .before .args .b) (λ r. omega arith)
 
 returns-4 : tie.Need-returns-4
 returns-4 c =
-    let b = c .before .before .before .before .before .before .before .before .args .b in sym (not-so (boardInRange b) (λ h. let r = board-range b h in omega arith))
+    board-out (c .before .before .before .before .before .before .before .before .args .b) (λ r. omega arith)
 
 returns-5 : tie.Need-returns-5
 returns-5 c =
-    let b = c .before .before .before .before .before .before .before .before .before .before .args .b in sym (not-so (boardInRange b) (λ h. let r = board-range b h in omega arith))
+    board-out (c .before .before .before .before .before .before .before .before .before .before .args .b) (λ r. omega arith)
 
 returns-6 : tie.Need-returns-6
 returns-6 c =
-    let b = c .before .before .before .before .before .before .before .before .before .before .before .before .args .b in sym (not-so (boardInRange b) (λ h. let r = board-range b h in omega arith))
+    board-out (c .before .before .before .before .before .before .before .before .before .before .before .before .args .b) (λ r. omega arith)
 
 returns-7 : tie.Need-returns-7
 returns-7 c =
-    let b = c .before .before .before .before .before .before .before .before .before .before .before .before .before .before .args .b in sym (not-so (boardInRange b) (λ h. let r = board-range b h in omega arith))
+    board-out (c .before .before .before .before .before .before .before .before .before .before .before .before .before .before .args .b) (λ r. omega arith)
 
 returns-8 : tie.Need-returns-8
 returns-8 c =
-    let b = c .before .before .before .before .before .before .before .before .before .before .before .before .before .before .before .before .args .b in sym (not-so (boardInRange b) (λ h. let r = board-range b h in omega arith))
+    board-out (c .before .before .before .before .before .before .before .before .before .before .before .before .before .before .before .before .args .b) (λ r. omega arith)
 
 returns-9 : tie.Need-returns-9
 returns-9 c =
-    let b = c .before .before .before .before .before .before .before .before .before .before .before .before .before .before .before .before .before .before .args .b in sym (not-so (boardInRange b) (λ h. let r = board-range b h in omega arith))
+    board-out (c .before .before .before .before .before .before .before .before .before .before .before .before .before .before .before .before .before .before .args .b) (λ r. omega arith)
 
 returns-10 : tie.Need-returns-10
 returns-10 c =

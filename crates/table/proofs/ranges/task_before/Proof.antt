@@ -1,12 +1,11 @@
--- `image::load::stands_before` meets its contract: queue, then period, then number.
+-- `table::ranges::task_before` meets its contract: queue, then period, then number.
 -- Assumes nothing.
-use Prim.Native.Nat.{_-_}
 use mathlib.Core.Path.{sym}
 use native.Mathlib.Omega.{arith}
 use borrow.Author.Tests.{eq-eqb, ne-eqb, lt-ltb, le-ltb, le-leb, lt-leb}
 use Rattle.table.specs.WellFormed.{taskBefore}
-use Rattle.image.proofs.load.stands_before.Statement.{statement}
-use Rattle.image.proofs.load.stands_before.Tie as tie
+use Rattle.table.proofs.ranges.task_before.Statement.{statement}
+use Rattle.table.proofs.ranges.task_before.Tie as tie
 
 returns : tie.Need-returns
 unfolding taskBefore
@@ -28,5 +27,5 @@ unfolding taskBefore
 returns-4 c =
     let a = c .before .before .before .before .before .before .before .before .before .before .before .args .a in let b = c .before .before .before .before .before .before .before .before .before .before .before .args .b in sym (simp (le-leb (a .queue) (b .queue) (omega arith), le-ltb (a .period) (b .period) (omega arith), eq-eqb (a .period) (b .period) (omega arith)))
 
-pub stands-before-spec : {M : Type 1} → statement M
-stands-before-spec = tie.close (tie.spec returns returns-2 returns-3 returns-4)
+pub task-before-spec : {M : Type 1} → statement M
+task-before-spec = tie.close (tie.spec returns returns-2 returns-3 returns-4)

@@ -1,0 +1,13 @@
+-- `table::ranges::sem_before` meets its contract: by number.
+-- Assumes nothing.
+use mathlib.Core.Path.{refl}
+use Rattle.table.specs.WellFormed.{semBefore}
+use Rattle.table.proofs.ranges.sem_before.Statement.{statement}
+use Rattle.table.proofs.ranges.sem_before.Tie as tie
+
+returns : tie.Need-returns
+unfolding semBefore
+returns c = refl
+
+pub sem-before-spec : {M : Type 1} → statement M
+sem-before-spec = tie.close (tie.spec returns)
