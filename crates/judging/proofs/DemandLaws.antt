@@ -1,7 +1,7 @@
 -- The laws of demands: sums by position, counts that rise with t and stand still between multiples, and what a decision says.
 -- Assumes nothing.
 use Prim.Native.Nat.{ℕ, zero, suc, _+_, _*_, _-_, _/_, _≤_, _<_}
-use mathlib.Core.Path.{_≡_, refl, sym, ap, subst, _∙_}
+use mathlib.Core.Path.{_≡_, refl, sym, ap, _∙_}
 use mathlib.Core.Logic.{_⊎_, inl, inr, if-pos, if-neg}
 use mathlib.Core.Bool.{Bool, true, false, cond}
 use native.Mathlib.Nat.{
@@ -22,12 +22,12 @@ use native.Mathlib.Decide.{decLe}
 use native.Mathlib.Numerals.{add-one}
 use native.Mathlib.Omega.{arith}
 use lib.Dec.{eqb, leb}
-use lib.ListN.{length, take, replicate, getD-replicate}
+use lib.ListN.{length, replicate, getD-replicate}
 use lib.Seq.{getD-take, length-take-le}
 use borrow.Author.Tests.{leb-true, leb-false, le-leb, lt-leb, eq-eqb, ne-eqb}
 use Rattle.judging.specs.declared.Columns.{Columns}
 use Rattle.judging.specs.Columns.{at, columns, firstTasks}
-use Rattle.judging.specs.Ranges.{PeriodsInRange, InRange}
+use Rattle.judging.specs.Ranges.{InRange}
 use Rattle.judging.specs.Demands.{sumTo, ceil, star, counted, demandDP2, demandFP, TimeUpTo, timeUpTo, decided, hasTime}
 
 -- sums by position
@@ -150,11 +150,6 @@ pub yes-decided : {P : Type 0} (d : Dec P) → decided d ≡ true → P
 unfolding decided
 yes-decided (yes p) e = p
 yes-decided (no n) e = let z : _≡_ {A = ℕ} 0 1 = cc in absurd (omega arith)
-
-pub no-decided : {P : Type 0} (d : Dec P) → decided d ≡ false → P → ⊥
-unfolding decided
-no-decided (yes p) e q = let z : _≡_ {A = ℕ} 0 1 = cc in omega arith
-no-decided (no n) e q = n q
 
 -- a search that has found nothing up to the limit decides
 pub decided-none : (demand : ℕ → ℕ) (limit : ℕ) → ((s : ℕ) → 1 ≤ s → s ≤ limit → s < demand s) → decided (timeUpTo demand limit) ≡ false

@@ -49,7 +49,7 @@ pub fn shared_period(queues: &[u8], periods: &[u64]) -> Shared
 // Whether the loads of the queues up to the last are more than their periods hold. Both sides go times the shared
 // period h, so that no fraction is rounded; a sum that is above h stays above, so that no sum grows too large.
 pub fn over_full(queues: &[u8], periods: &[u64], loads: &[u64], last: u8, h: u64) -> bool
-    requires { ⌜ InRange (columns (now queues) (now periods) (now loads)) × Common (columns (now queues) (now periods) (now loads)) last h ⌝ }
+    requires { ⌜ (let c = columns (now queues) (now periods) (now loads) in InRange c × Common c last h) ⌝ }
     ensures { λ r. ⌜ r ≡ overFull (columns (now (queues .entry)) (now (periods .entry)) (now (loads .entry))) last ⌝ }
 {
     let mut sum: u64 = 0;

@@ -17,11 +17,7 @@ use Rattle.table.proofs.SumLaws.{both-left, both-right, every-at}
 use Rattle.charges.specs.Charges.{
   tasksIn,
   countsOf,
-  choiceDP,
-  choiceFP,
-  sumDP1,
-  sumDP2,
-  sumFP,
+  choiceUnblocked,
   sumBy,
   chargeBy,
   loadBy,
@@ -141,7 +137,7 @@ all-parts (suc n) [] a b = tt
 all-parts (suc n) (c ∷ rest) a b = (a .0, all-parts n rest (a .1) b)
 
 p1-p9 : All (take 8 cases)
-unfolding cases right rightly same every fixedVerdict forced forcedList forcedColumns gcdForced lcmForced sharedForced longFrom fixedFrom fixedUpTo fixedLate fixedOutcome tasksIn countsOf choiceDP choiceFP sumDP1 sumDP2 sumFP sumBy chargeBy loadBy chargeOf loadOf plus fractions aboveOne overFull sumTo ceil star counted demandDP2 demandFP orElse firstBelow found columnsOf nameOf named builtIn firstOf sumOf countOf
+unfolding cases right rightly same every fixedVerdict forced forcedList forcedColumns gcdForced lcmForced sharedForced longFrom fixedFrom fixedUpTo fixedLate fixedOutcome tasksIn countsOf choiceUnblocked sumBy chargeBy loadBy chargeOf loadOf plus fractions aboveOne overFull sumTo ceil star counted demandDP2 demandFP orElse firstBelow found columnsOf nameOf named builtIn firstOf sumOf countOf
 p1-p9 = all-right (take 8 cases) refl
 
 -- P1 to P12

@@ -6,7 +6,7 @@ use mathlib.Core.Logic.{_↔_, _≢_}
 use mathlib.Core.Bool.{Bool, true, false, not, _&&_, _||_}
 use mathlib.Core.List.{List}
 use native.Mathlib.Omega.{arith}
-use lib.Dec.{eqb, ltb}
+use lib.Dec.{eqb}
 use lib.ListN.{length}
 use borrow.Author.Tests.{eqb-true, eqb-false, eq-eqb, ne-eqb, ltb-true, lt-ltb}
 use Rattle.table.specs.declared.Board.{Board}
@@ -18,7 +18,7 @@ use Rattle.table.proofs.SumLaws.{both, both-left, both-right}
 use Rattle.judging.specs.declared.Columns.{Columns}
 use Rattle.judging.specs.Columns.{at, columnsOf}
 use Rattle.judging.specs.Periods.{sharedPeriod, tooLong, fractions, aboveOne, overFull}
-use Rattle.judging.specs.Demands.{TimeDP2, TimeFP, timeDP2, timeFP, decided}
+use Rattle.judging.specs.Demands.{timeDP2, timeFP, decided}
 use Rattle.judging.specs.Verdicts.{
   firstBelow,
   found,
@@ -36,7 +36,7 @@ use Rattle.judging.proofs.ColumnLaws.{queues-length}
 use Rattle.judging.proofs.FirstLaws as First
 use Rattle.theorems.specs.Demands.{JudgeWhen, JudgeNames}
 use Rattle.theorems.specs.When.{FirstThat}
-use Rattle.theorems.specs.Verdicts.{Long, Over, LateDP2, LateFP, AtSome, columnConditions, NamesFirst}
+use Rattle.theorems.specs.Verdicts.{Long, Over, LateDP2, LateFP, columnConditions, NamesFirst}
 use Rattle.theorems.proofs.FirstLaws.{nothing-more, test-says, first-that, picked}
 
 -- something is found exactly if the test holds somewhere
