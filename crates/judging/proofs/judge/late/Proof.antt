@@ -15,12 +15,26 @@ use Rattle.judging.proofs.judge.late.Tie as tie
 abbrev given : tie.Start → Columns
 given s = columns (s .args .queues .now) (s .args .periods .now) (s .args .loads .now)
 
-shared-slice-read-if1 : tie.Need-shared-slice-read-if1
-shared-slice-read-if1 c = search needs
-
+-- what is answered
 returns : tie.Need-returns
 unfolding late
 returns c = rw (ne-eqb _ _ (c .if1 .taken))
+
+returns-2 : tie.Need-returns-2
+unfolding late
+returns-2 c =
+    rw (eq-eqb _ _ (c .before .before .before .if1 .left), eq-eqb _ _ (c .before .before .if2 .taken)) (ap not (c .has-time .ensures))
+
+returns-3 : tie.Need-returns-3
+unfolding late
+returns-3 c =
+    let s = c .before .before .before .before .before .before .before .before .before .before .before in
+    rw (eq-eqb _ _ (c .before .before .before .before .before .before .if1 .left), ne-eqb _ _ (c .before .before .before .before .before .if2 .left))
+    (ap not (c .has-time2 .ensures ∙ whole-decides (given s) (s .args .i) (s .pre .0) (s .pre .1) _))
+
+-- what each step asks
+shared-slice-read-if1 : tie.Need-shared-slice-read-if1
+shared-slice-read-if1 c = search needs
 
 mul-has-time : tie.Need-mul-has-time
 mul-has-time c = search needs
@@ -32,11 +46,6 @@ has-time-requires : tie.Need-has-time-requires
 has-time-requires c κs =
     let s = c .before .before .before .before .before .before .before in
     (s .pre .0, s .pre .0 .periods .most (s .args .i) (s .pre .1))
-
-returns-2 : tie.Need-returns-2
-unfolding late
-returns-2 c =
-    rw (eq-eqb _ _ (c .before .before .before .if1 .left), eq-eqb _ _ (c .before .before .if2 .taken)) (ap not (c .has-time .ensures))
 
 add-end : tie.Need-add-end
 add-end c = search needs
@@ -69,13 +78,6 @@ has-time-requires-2 : tie.Need-has-time-requires-2
 has-time-requires-2 c κs =
     let s = c .before .before .before .before .before .before .before .before .before .before in
     (whole-range (given s) (s .args .i) (s .pre .0) (s .pre .1), s .pre .0 .periods .most (s .args .i) (s .pre .1))
-
-returns-3 : tie.Need-returns-3
-unfolding late
-returns-3 c =
-    let s = c .before .before .before .before .before .before .before .before .before .before .before in
-    rw (eq-eqb _ _ (c .before .before .before .before .before .before .if1 .left), ne-eqb _ _ (c .before .before .before .before .before .if2 .left))
-    (ap not (c .has-time2 .ensures ∙ whole-decides (given s) (s .args .i) (s .pre .0) (s .pre .1) _))
 
 pub late-spec : {M : Type 1} → statement M
 late-spec =

@@ -22,6 +22,42 @@ abbrev μ-loop : tie.MeasureT-loop
 loop-holds : tie.Need-loop-holds Inv-loop μ-loop
 loop-holds c = (omega arith, scaled-start _ _ _, omega arith)
 
+-- what is answered
+returns : tie.Need-returns Inv-loop μ-loop
+returns c =
+    let a = c .before .before .before .before .before .before .before .args in
+    let p = c .before .before .before .before .before .before .before .pre in
+    let i = c .before .before .before .before .before .before .loop .i in
+    let l = c .before .before .before .before .before .loop-test .taken in
+    let n = length (a .queues .now) in
+    let more = scaled-in (columns (a .queues .now) (a .periods .now) (a .loads .now)) (a .last) (a .h) i (c .before .before .before .if1 .taken) in
+    let far : scaled (columns (a .queues .now) (a .periods .now) (a .loads .now)) (a .last) (a .h) (i + 1)
+    ≤ scaled (columns (a .queues .now) (a .periods .now) (a .loads .now)) (a .last) (a .h) n =
+    scaled-mono (columns (a .queues .now) (a .periods .now) (a .loads .now)) (a .last) (a .h) (i + 1) n (omega arith)
+    in
+    sym
+    (over-full (columns (a .queues .now) (a .periods .now) (a .loads .now)) (a .last) (a .h) (p .1 .positive) (λ j k. omega (arith, p .0 .periods .least j k)) (p .1 .multiple)
+    ∙ lt-ltb (a .h) (scaled (columns (a .queues .now) (a .periods .now) (a .loads .now)) (a .last) (a .h) n) (omega (arith, more)))
+
+returns-2 : tie.Need-returns-2 Inv-loop μ-loop
+returns-2 c =
+    let a = c .before .before .args in
+    let p = c .before .before .pre in
+    let e : c .before .loop .i ≡ length (a .queues .now) = omega arith in
+    let s = ap (scaled (columns (a .queues .now) (a .periods .now) (a .loads .now)) (a .last) (a .h)) e in
+    sym
+    (over-full (columns (a .queues .now) (a .periods .now) (a .loads .now)) (a .last) (a .h) (p .1 .positive) (λ j k. omega (arith, p .0 .periods .least j k)) (p .1 .multiple)
+    ∙ le-ltb (a .h) (scaled (columns (a .queues .now) (a .periods .now) (a .loads .now)) (a .last) (a .h) (length (a .queues .now))) (omega (arith, s)))
+
+loop-again : tie.Need-loop-again Inv-loop μ-loop
+loop-again c =
+    let a = c .before .before .before .before .args in
+    let i = c .before .before .before .loop .i in
+    let inn = scaled-in (columns (a .queues .now) (a .periods .now) (a .loads .now)) (a .last) (a .h) i in
+    let out = scaled-out (columns (a .queues .now) (a .periods .now) (a .loads .now)) (a .last) (a .h) i in
+    ⊎-elim (λ w. omega (arith, inn (w .0 .taken))) (λ w. omega (arith, out (w .0 .left))) (c .if1 .came)
+
+-- what each step asks
 shared-slice-read-if1 : tie.Need-shared-slice-read-if1 Inv-loop μ-loop
 shared-slice-read-if1 c = search needs
 
@@ -56,45 +92,11 @@ mul-sum-3 c = omega (arith, term c)
 add-sum : tie.Need-add-sum Inv-loop μ-loop
 add-sum c = omega (arith, term c)
 
-returns : tie.Need-returns Inv-loop μ-loop
-returns c =
-    let a = c .before .before .before .before .before .before .before .args in
-    let p = c .before .before .before .before .before .before .before .pre in
-    let i = c .before .before .before .before .before .before .loop .i in
-    let l = c .before .before .before .before .before .loop-test .taken in
-    let n = length (a .queues .now) in
-    let more = scaled-in (columns (a .queues .now) (a .periods .now) (a .loads .now)) (a .last) (a .h) i (c .before .before .before .if1 .taken) in
-    let far : scaled (columns (a .queues .now) (a .periods .now) (a .loads .now)) (a .last) (a .h) (i + 1)
-    ≤ scaled (columns (a .queues .now) (a .periods .now) (a .loads .now)) (a .last) (a .h) n =
-    scaled-mono (columns (a .queues .now) (a .periods .now) (a .loads .now)) (a .last) (a .h) (i + 1) n (omega arith)
-    in
-    sym
-    (over-full (columns (a .queues .now) (a .periods .now) (a .loads .now)) (a .last) (a .h) (p .1 .positive) (λ j k. omega (arith, p .0 .periods .least j k)) (p .1 .multiple)
-    ∙ lt-ltb (a .h) (scaled (columns (a .queues .now) (a .periods .now) (a .loads .now)) (a .last) (a .h) n) (omega (arith, more)))
-
 add-i : tie.Need-add-i Inv-loop μ-loop
 add-i c = search needs
 
 loop-less : tie.Need-loop-less Inv-loop μ-loop
 loop-less c = search needs
-
-loop-again : tie.Need-loop-again Inv-loop μ-loop
-loop-again c =
-    let a = c .before .before .before .before .args in
-    let i = c .before .before .before .loop .i in
-    let inn = scaled-in (columns (a .queues .now) (a .periods .now) (a .loads .now)) (a .last) (a .h) i in
-    let out = scaled-out (columns (a .queues .now) (a .periods .now) (a .loads .now)) (a .last) (a .h) i in
-    ⊎-elim (λ w. omega (arith, inn (w .0 .taken))) (λ w. omega (arith, out (w .0 .left))) (c .if1 .came)
-
-returns-2 : tie.Need-returns-2 Inv-loop μ-loop
-returns-2 c =
-    let a = c .before .before .args in
-    let p = c .before .before .pre in
-    let e : c .before .loop .i ≡ length (a .queues .now) = omega arith in
-    let s = ap (scaled (columns (a .queues .now) (a .periods .now) (a .loads .now)) (a .last) (a .h)) e in
-    sym
-    (over-full (columns (a .queues .now) (a .periods .now) (a .loads .now)) (a .last) (a .h) (p .1 .positive) (λ j k. omega (arith, p .0 .periods .least j k)) (p .1 .multiple)
-    ∙ le-ltb (a .h) (scaled (columns (a .queues .now) (a .periods .now) (a .loads .now)) (a .last) (a .h) (length (a .queues .now))) (omega (arith, s)))
 
 pub over-full-spec : {M : Type 1} → statement M
 over-full-spec =
