@@ -1,4 +1,5 @@
--- The ranges that a well-formed table has: what the helpers of judging may take for granted of the columns that they are lent.
+-- What the helpers of judging may take for granted of the columns that they are lent, and a well-formed table has. Nobody need believe it: `judge`
+-- asks for a sound state alone.
 use Prim.Native.Nat.{ℕ, _∣_, _≤_, _<_}
 use mathlib.Core.Path.{_≡_}
 use mathlib.Core.List.{List}

@@ -1,4 +1,4 @@
--- What the search for a time steps by (requests may replace it; nothing but the search speaks of it).
+-- What the search for a time steps by. Nobody need believe it: nothing but the search speaks of it, and its answer is that there is a time or none.
 use Prim.Native.Nat.{ℕ, _+_, _*_, _/_, _≤_, _<_}
 use mathlib.Core.List.{List}
 use lib.ListN.{length}

@@ -19,7 +19,10 @@ abbrev μ-loop : tie.MeasureT-loop
 μ-loop queues periods loads queue i₀ i = length queues - i
 
 loop-holds : tie.Need-loop-holds Inv-loop μ-loop
-loop-holds c = let a = c .before .before .before .args in (omega arith, first-start (late (a .queue) (columns (a .queues .now) (a .periods .now) (a .loads .now))))
+loop-holds c =
+    let a = c .before .before .before .args in
+    let g = columns (a .queues .now) (a .periods .now) (a .loads .now) in
+    (omega arith, first-start (late (a .queue) g))
 
 late-requires : tie.Need-late-requires Inv-loop μ-loop
 late-requires c κs = (c .before .before .before .before .before .pre, c .loop-test .taken)
@@ -28,8 +31,9 @@ returns : tie.Need-returns Inv-loop μ-loop
 unfolding firstLate
 returns c =
     let a = c .before .before .before .before .before .before .before .args in
+    let g = columns (a .queues .now) (a .periods .now) (a .loads .now) in
     let l = c .before .before .before .loop in
-    sym (first-hit (late (a .queue) (columns (a .queues .now) (a .periods .now) (a .loads .now))) (length (a .queues .now)) (l .i) (c .before .before .loop-test .taken) (sym (c .before .late .ensures) ∙ c .if1 .taken) (l .inv .1))
+    sym (first-hit (late (a .queue) g) (length (a .queues .now)) (l .i) (c .before .before .loop-test .taken) (sym (c .before .late .ensures) ∙ c .if1 .taken) (l .inv .1))
 
 add-i : tie.Need-add-i Inv-loop μ-loop
 add-i c = search needs
@@ -40,16 +44,18 @@ loop-less c = search needs
 loop-again : tie.Need-loop-again Inv-loop μ-loop
 loop-again c =
     let a = c .before .before .before .before .before .before .before .args in
+    let g = columns (a .queues .now) (a .periods .now) (a .loads .now) in
     let l = c .before .before .before .loop in
-    (omega arith, first-miss (late (a .queue) (columns (a .queues .now) (a .periods .now) (a .loads .now))) (l .i) (sym (c .before .late .ensures) ∙ c .if1 .left) (l .inv .1))
+    (omega arith, first-miss (late (a .queue) g) (l .i) (sym (c .before .late .ensures) ∙ c .if1 .left) (l .inv .1))
 
 returns-2 : tie.Need-returns-2 Inv-loop μ-loop
 unfolding firstLate
 returns-2 c =
     let a = c .before .before .before .before .before .args in
+    let g = columns (a .queues .now) (a .periods .now) (a .loads .now) in
     let l = c .before .loop in
     let e : l .i ≡ length (a .queues .now) = omega arith in
-    sym (subst (λ (n : ℕ). firstBelow n (late (a .queue) (columns (a .queues .now) (a .periods .now) (a .loads .now))) ≡ Nothing) e (l .inv .1))
+    sym (subst (λ (n : ℕ). firstBelow n (late (a .queue) g) ≡ Nothing) e (l .inv .1))
 
 pub first-late-spec : {M : Type 1} → statement M
 first-late-spec =

@@ -28,9 +28,10 @@ demand-requires c κs = (c .before .before .before .before .before .before .pre 
 returns : tie.Need-returns Inv-loop μ-loop
 returns c =
     let a = c .before .before .before .before .before .before .before .before .args in
+    let g = columns (a .queues .now) (a .periods .now) (a .loads .now) in
     let n = c .before .before .next in
     sym
-    (decided-some (demandDP2 (columns (a .queues .now) (a .periods .now) (a .loads .now)) (a .limit)) (a .limit) (n .result)
+    (decided-some (demandDP2 g (a .limit)) (a .limit) (n .result)
     (omega (arith, n .ensures .later)) (n .ensures .most) (omega (arith, c .before .demand .ensures, c .if1 .taken)))
 
 loop-less : tie.Need-loop-less Inv-loop μ-loop
@@ -39,13 +40,14 @@ loop-less c = omega (arith, c .before .before .next .ensures .later, c .before .
 loop-again : tie.Need-loop-again Inv-loop μ-loop
 loop-again c =
     let a = c .before .before .before .before .before .before .before .before .args in
+    let g = columns (a .queues .now) (a .periods .now) (a .loads .now) in
     let r = c .before .before .before .before .before .before .before .before .pre .0 in
     let n = c .before .before .next in
     let l = c .before .before .before .before .loop in
-    let fails : n .result < demandDP2 (columns (a .queues .now) (a .periods .now) (a .loads .now)) (a .limit) (n .result) =
+    let fails : n .result < demandDP2 g (a .limit) (n .result) =
     omega (arith, c .before .demand .ensures, c .if1 .left)
     in
-    let each : (s : ℕ) → (s ≤ l .t) ⊎ (l .t < s) → 1 ≤ s → s ≤ n .result → s < demandDP2 (columns (a .queues .now) (a .periods .now) (a .loads .now)) (a .limit) s =
+    let each : (s : ℕ) → (s ≤ l .t) ⊎ (l .t < s) → 1 ≤ s → s ≤ n .result → s < demandDP2 g (a .limit) s =
     λ s w h k.
     ⊎-elim
     (λ (before : s ≤ l .t). l .inv .1 s h before)
@@ -53,7 +55,7 @@ loop-again c =
     omega (
       arith,
       fails,
-      demand-still (columns (a .queues .now) (a .periods .now) (a .loads .now)) (a .limit) (l .t) s (n .result)
+      demand-still g (a .limit) (l .t) s (n .result)
           (λ j g. omega (arith, r .periods .least j g))
           (λ j g. n .ensures .between j (omega (arith, r .periodsLength)))
           behind k,
@@ -65,8 +67,9 @@ loop-again c =
 returns-2 : tie.Need-returns-2 Inv-loop μ-loop
 returns-2 c =
     let a = c .before .before .before .before .before .args in
+    let g = columns (a .queues .now) (a .periods .now) (a .loads .now) in
     let l = c .before .loop in
-    sym (decided-none (demandDP2 (columns (a .queues .now) (a .periods .now) (a .loads .now)) (a .limit)) (a .limit) (λ s h k. l .inv .1 s h (omega arith)))
+    sym (decided-none (demandDP2 g (a .limit)) (a .limit) (λ s h k. l .inv .1 s h (omega arith)))
 
 pub has-time-spec : {M : Type 1} → statement M
 has-time-spec =

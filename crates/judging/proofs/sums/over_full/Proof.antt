@@ -26,35 +26,38 @@ loop-holds c = (omega arith, scaled-start _ _ _, omega arith)
 returns : tie.Need-returns Inv-loop μ-loop
 returns c =
     let a = c .before .before .before .before .before .before .before .args in
+    let g = columns (a .queues .now) (a .periods .now) (a .loads .now) in
     let p = c .before .before .before .before .before .before .before .pre in
     let i = c .before .before .before .before .before .before .loop .i in
     let l = c .before .before .before .before .before .loop-test .taken in
     let n = length (a .queues .now) in
-    let more = scaled-in (columns (a .queues .now) (a .periods .now) (a .loads .now)) (a .last) (a .h) i (c .before .before .before .if1 .taken) in
-    let far : scaled (columns (a .queues .now) (a .periods .now) (a .loads .now)) (a .last) (a .h) (i + 1)
-    ≤ scaled (columns (a .queues .now) (a .periods .now) (a .loads .now)) (a .last) (a .h) n =
-    scaled-mono (columns (a .queues .now) (a .periods .now) (a .loads .now)) (a .last) (a .h) (i + 1) n (omega arith)
+    let more = scaled-in g (a .last) (a .h) i (c .before .before .before .if1 .taken) in
+    let far : scaled g (a .last) (a .h) (i + 1)
+    ≤ scaled g (a .last) (a .h) n =
+    scaled-mono g (a .last) (a .h) (i + 1) n (omega arith)
     in
     sym
-    (over-full (columns (a .queues .now) (a .periods .now) (a .loads .now)) (a .last) (a .h) (p .1 .positive) (λ j k. omega (arith, p .0 .periods .least j k)) (p .1 .multiple)
-    ∙ lt-ltb (a .h) (scaled (columns (a .queues .now) (a .periods .now) (a .loads .now)) (a .last) (a .h) n) (omega (arith, more)))
+    (over-full g (a .last) (a .h) (p .1 .positive) (λ j k. omega (arith, p .0 .periods .least j k)) (p .1 .multiple)
+    ∙ lt-ltb (a .h) (scaled g (a .last) (a .h) n) (omega (arith, more)))
 
 returns-2 : tie.Need-returns-2 Inv-loop μ-loop
 returns-2 c =
     let a = c .before .before .args in
+    let g = columns (a .queues .now) (a .periods .now) (a .loads .now) in
     let p = c .before .before .pre in
     let e : c .before .loop .i ≡ length (a .queues .now) = omega arith in
-    let s = ap (scaled (columns (a .queues .now) (a .periods .now) (a .loads .now)) (a .last) (a .h)) e in
+    let s = ap (scaled g (a .last) (a .h)) e in
     sym
-    (over-full (columns (a .queues .now) (a .periods .now) (a .loads .now)) (a .last) (a .h) (p .1 .positive) (λ j k. omega (arith, p .0 .periods .least j k)) (p .1 .multiple)
-    ∙ le-ltb (a .h) (scaled (columns (a .queues .now) (a .periods .now) (a .loads .now)) (a .last) (a .h) (length (a .queues .now))) (omega (arith, s)))
+    (over-full g (a .last) (a .h) (p .1 .positive) (λ j k. omega (arith, p .0 .periods .least j k)) (p .1 .multiple)
+    ∙ le-ltb (a .h) (scaled g (a .last) (a .h) (length (a .queues .now))) (omega (arith, s)))
 
 loop-again : tie.Need-loop-again Inv-loop μ-loop
 loop-again c =
     let a = c .before .before .before .before .args in
+    let g = columns (a .queues .now) (a .periods .now) (a .loads .now) in
     let i = c .before .before .before .loop .i in
-    let inn = scaled-in (columns (a .queues .now) (a .periods .now) (a .loads .now)) (a .last) (a .h) i in
-    let out = scaled-out (columns (a .queues .now) (a .periods .now) (a .loads .now)) (a .last) (a .h) i in
+    let inn = scaled-in g (a .last) (a .h) i in
+    let out = scaled-out g (a .last) (a .h) i in
     ⊎-elim (λ w. omega (arith, inn (w .0 .taken))) (λ w. omega (arith, out (w .0 .left))) (c .if1 .came)
 
 -- what each step asks

@@ -76,14 +76,15 @@ returns : tie.Need-returns Inv-loop μ-loop
 unfolding sharedOf firstLong sharedBy
 returns c =
     let a = c .before .before .before .before .before .before .before .before .before .args in
+    let g = columns (a .queues .now) (a .periods .now) [] in
     let l = c .before .before .before .before .before .before .loop in
     let above =
-    too-long (columns (a .queues .now) (a .periods .now) []) (l .i)
+    too-long g (l .i)
     (subst (λ (z : ℕ). 1000000000000 < z) (grown (c .before)) (product-above 1000000000000 (l .h) _ (part (c .before)) (c .if2 .taken)))
     in
     sym
-    (ap (λ (f : Found). sharedBy f (sharedPeriod (columns (a .queues .now) (a .periods .now) []) (length (a .queues .now))))
-    (first-hit (tooLong (columns (a .queues .now) (a .periods .now) [])) (length (a .queues .now)) (l .i) (c .before .before .before .before .before .loop-test .taken) above (l .inv .4)))
+    (ap (λ (f : Found). sharedBy f (sharedPeriod g (length (a .queues .now))))
+    (first-hit (tooLong g) (length (a .queues .now)) (l .i) (c .before .before .before .before .before .loop-test .taken) above (l .inv .4)))
 
 mul-h : tie.Need-mul-h Inv-loop μ-loop
 mul-h c = omega (arith, product-within 1000000000000 (c .before .before .before .before .before .before .loop .h) _ (part (c .before)) (c .if2 .left))
@@ -97,8 +98,9 @@ loop-less c = search needs
 loop-again : tie.Need-loop-again Inv-loop μ-loop
 loop-again c =
     let a = c .before .before .before .before .before .before .args in
+    let g = columns (a .queues .now) (a .periods .now) [] in
     let l = c .before .before .before .loop in
-    let facts : (c .if1 .h ≡ sharedPeriod (columns (a .queues .now) (a .periods .now) []) (l .i + 1)) × (1 ≤ c .if1 .h) × (c .if1 .h ≤ 1000000000000) =
+    let facts : (c .if1 .h ≡ sharedPeriod g (l .i + 1)) × (1 ≤ c .if1 .h) × (c .if1 .h ≤ 1000000000000) =
     ⊎-elim
     (λ w.
     let g : tie.After-gcd Inv-loop μ-loop =
@@ -108,26 +110,27 @@ loop-again c =
     let some : 0 < l .h * (at (a .periods .now) (l .i) / w .2 .result) = mul-pos (l .inv .2) (part g) in
     (w .4 ∙ grown g, omega (arith, w .4), omega (arith, w .4)))
     (λ w.
-    (w .1 ∙ l .inv .1 ∙ sym (shared-out (columns (a .queues .now) (a .periods .now) []) (l .i) (w .0 .left)), omega (arith, w .1), omega (arith, w .1)))
+    (w .1 ∙ l .inv .1 ∙ sym (shared-out g (l .i) (w .0 .left)), omega (arith, w .1), omega (arith, w .1)))
     (c .if1 .came)
     in (
       omega arith,
       facts .0,
       facts .1,
       facts .2,
-      first-miss (tooLong (columns (a .queues .now) (a .periods .now) [])) (l .i) (not-long (columns (a .queues .now) (a .periods .now) []) (l .i) (omega (arith, facts .0, facts .2))) (l .inv .4),
+      first-miss (tooLong g) (l .i) (not-long g (l .i) (omega (arith, facts .0, facts .2))) (l .inv .4),
     )
 
 returns-2 : tie.Need-returns-2 Inv-loop μ-loop
 unfolding sharedOf firstLong sharedBy
 returns-2 c =
     let a = c .before .before .before .before .args in
+    let g = columns (a .queues .now) (a .periods .now) [] in
     let l = c .before .loop in
     let e : l .i ≡ length (a .queues .now) = omega arith in
-    ap Within (l .inv .1 ∙ ap (sharedPeriod (columns (a .queues .now) (a .periods .now) [])) e)
+    ap Within (l .inv .1 ∙ ap (sharedPeriod g) e)
     ∙ sym
-    (ap (λ (f : Found). sharedBy f (sharedPeriod (columns (a .queues .now) (a .periods .now) []) (length (a .queues .now))))
-    (subst (λ (n : ℕ). firstBelow n (tooLong (columns (a .queues .now) (a .periods .now) [])) ≡ Nothing) e (l .inv .4)))
+    (ap (λ (f : Found). sharedBy f (sharedPeriod g (length (a .queues .now))))
+    (subst (λ (n : ℕ). firstBelow n (tooLong g) ≡ Nothing) e (l .inv .4)))
 
 pub shared-period-spec : {M : Type 1} → statement M
 shared-period-spec =
