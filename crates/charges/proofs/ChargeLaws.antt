@@ -16,7 +16,7 @@ use Rattle.table.specs.WellFormed.{boardInRange}
 use Rattle.table.proofs.SumLaws.{countOf-more, countOf-bound}
 use Rattle.table.proofs.OrderLaws.{BoardRange, board-range}
 use Rattle.charges.specs.declared.Counts.{Counts}
-use Rattle.charges.specs.Charges.{tasksIn, countsOf, choiceDP, choiceFP, sumDP1, sumDP2, sumFP, sumBy, chargeBy, loadBy, chargeOf, loadOf}
+use Rattle.charges.specs.Charges.{tasksIn, countsOf, choiceDP, choiceFP, sumDP, choiceUnblocked, sumFP, sumBy, chargeBy, loadBy, chargeOf, loadOf}
 
 -- one task more
 pub tasksIn-more : (queue : ℕ) (tasks : List Task) (i : ℕ) (d : Task) → i < length tasks
@@ -57,45 +57,40 @@ record Small (c : Counts) : Type 0 where
   m : c .m ≤ 64
 
 choice-small : (c : Counts) (j : ℕ) → Small c → j ≤ 64 → choiceDP c j ≤ 680000
-unfolding choiceDP
 choice-small c j s h =
     let a : j * c .board .«dp_select_task» ≤ 64 * 10000 = mul-le-mul h (s .board .dpSelectTask) in
     let b : c .k * c .board .«per_queue» ≤ 3 * 10000 = mul-le-mul (s .k) (s .board .perQueue) in
     omega (arith, s .board .dpSelect)
 
 choice-fp-small : (c : Counts) → Small c → choiceFP c ≤ 680000
-unfolding choiceFP
 choice-fp-small c s =
     let b : c .k * c .board .«per_queue» ≤ 3 * 10000 = mul-le-mul (s .k) (s .board .perQueue) in
     omega (arith, s .board .fpSelect)
 
-dp1-small : (c : Counts) → Small c → sumDP1 c ≤ 3000000
-unfolding sumDP1
-dp1-small c s = omega (arith, choice-small c (c .m) s (s .m), choice-small c (c .q) s (s .q), s .board)
+dp-small : (c : Counts) (i j : ℕ) → Small c → i ≤ 64 → j ≤ 64 → sumDP c i j ≤ 3000000
+dp-small c i j s h k = omega (arith, choice-small c i s h, choice-small c j s k, s .board)
 
-dp2-small : (c : Counts) → Small c → sumDP2 c ≤ 3000000
-unfolding sumDP2
-dp2-small c s = omega (arith, choice-small c (c .r) s (s .r), choice-small c (c .m) s (s .m), s .board)
+unblocked-small : (c : Counts) → Small c → choiceUnblocked c ≤ 680000
+unfolding choiceUnblocked
+unblocked-small c s = go (ltb 0 (c .r))
+  where
+    go : (t : Bool) → cond t (choiceDP c (c .m)) (choiceFP c) ≤ 680000
+    go true = choice-small c (c .m) s (s .m)
+    go false = choice-fp-small c s
 
 fp-small : (c : Counts) → Small c → sumFP c ≤ 3000000
-unfolding sumFP
 fp-small c s =
     let e : c .n - c .r ≤ 64 = omega (arith, s .n) in
     let a : (c .n - c .r) * c .board .«fp_block_task» ≤ 64 * 10000 = mul-le-mul e (s .board .fpBlockTask) in
-    let b : cond (ltb 0 (c .r)) (choiceDP c (c .m)) (choiceFP c) ≤ 680000 = either (ltb 0 (c .r)) (choice-small c (c .m) s (s .m)) (choice-fp-small c s) in
-    omega (arith, choice-fp-small c s, s .board)
-  where
-    either : (t : Bool) {x y z : ℕ} → x ≤ z → y ≤ z → cond t x y ≤ z
-    either true h k = h
-    either false h k = k
+    omega (arith, choice-fp-small c s, unblocked-small c s, s .board)
 
 charge-small : (c : Counts) (t : Task) → Small c → chargeBy c t ≤ 900000000
 unfolding chargeBy sumBy
 charge-small c t s = go (eqb (t .queue) 1) (eqb (t .queue) 2)
   where
-    go : (a b : Bool) → (3 * cond a (sumDP1 c) (cond b (sumDP2 c) (sumFP c)) + 1) / 2 ≤ 900000000
-    go true b = omega (arith, dp1-small c s)
-    go false true = omega (arith, dp2-small c s)
+    go : (a b : Bool) → (3 * cond a (sumDP c (c .m) (c .q)) (cond b (sumDP c (c .r) (c .m)) (sumFP c)) + 1) / 2 ≤ 900000000
+    go true b = omega (arith, dp-small c (c .m) (c .q) s (s .m) (s .q))
+    go false true = omega (arith, dp-small c (c .r) (c .m) s (s .r) (s .m))
     go false false = omega (arith, fp-small c s)
 
 counts-small : (tasks : List Task) (board : Board) → length tasks ≤ 64 → boardInRange board ≡ true → Small (countsOf tasks board)
@@ -136,11 +131,7 @@ counts-made tasks board n q s f k m hn hq hs hf hk hm =
     in
     λ i. record { board = board; n = hn i; q = hq i; r = hq i + hs i; k = kk i; m = mm i }
 
--- what counts that are those of a table give: the charge and the load among its tasks, and a difference n - r that is none below 0
-pub charge-of : (c : Counts) (tasks : List Task) (board : Board) (t : Task) → c ≡ countsOf tasks board → chargeBy c t ≡ chargeOf tasks board t
-unfolding chargeOf
-charge-of c tasks board t e = ap (λ (x : Counts). chargeBy x t) e
-
+-- what counts that are those of a table give: the load among its tasks, and a difference n - r that is none below 0
 pub load-of : (c : Counts) (tasks : List Task) (board : Board) (t : Task) → c ≡ countsOf tasks board → loadBy c t ≡ loadOf tasks board t
 unfolding loadOf
 load-of c tasks board t e = ap (λ (x : Counts). loadBy x t) e

@@ -26,30 +26,28 @@ countsOf tasks board =
     }
 
 -- 01, "Charges": a DP choice over j tasks costs DP select + j × per task + k × per queue
-unfoldable pub choiceDP : Counts → ℕ → ℕ
+abbrev pub choiceDP : Counts → ℕ → ℕ
 choiceDP c j = c .board .«dp_select» + j * c .board .«dp_select_task» + c .k * c .board .«per_queue»
 
 -- 01, "Charges": an FP choice costs FP select + k × per queue
-unfoldable pub choiceFP : Counts → ℕ
+abbrev pub choiceFP : Counts → ℕ
 choiceFP c = c .board .«fp_select» + c .k * c .board .«per_queue»
 
--- 01, "Charges", sums, DP1: DP block + choice over m + DP unblock + choice over q
-unfoldable pub sumDP1 : Counts → ℕ
-sumDP1 c = c .board .«dp_block» + choiceDP c (c .m) + c .board .«dp_unblock» + choiceDP c (c .q)
+-- 01, "Charges", sums, DP1 and DP2: DP block + a choice + DP unblock + a choice, over so many tasks each
+abbrev pub sumDP : Counts → ℕ → ℕ → ℕ
+sumDP c blocked unblocked = c .board .«dp_block» + choiceDP c blocked + c .board .«dp_unblock» + choiceDP c unblocked
 
--- DP2: DP block + choice over r + DP unblock + choice over m
-unfoldable pub sumDP2 : Counts → ℕ
-sumDP2 c = c .board .«dp_block» + choiceDP c (c .r) + c .board .«dp_unblock» + choiceDP c (c .m)
+-- FP: choice over m if r > 0, else FP choice
+unfoldable pub choiceUnblocked : Counts → ℕ
+choiceUnblocked c = cond (ltb 0 (c .r)) (choiceDP c (c .m)) (choiceFP c)
 
--- FP: FP block + (n − r) × per task + FP choice + FP unblock + (choice over m if r > 0, else FP choice)
-unfoldable pub sumFP : Counts → ℕ
-sumFP c =
-    c .board .«fp_block» + (c .n - c .r) * c .board .«fp_block_task» + choiceFP c + c .board .«fp_unblock»
-    + cond (ltb 0 (c .r)) (choiceDP c (c .m)) (choiceFP c)
+-- FP: FP block + (n − r) × per task + FP choice + FP unblock + that choice
+abbrev pub sumFP : Counts → ℕ
+sumFP c = c .board .«fp_block» + (c .n - c .r) * c .board .«fp_block_task» + choiceFP c + c .board .«fp_unblock» + choiceUnblocked c
 
--- a task's sum is that of its own queue
+-- a task's sum is that of its own queue: in DP1 it blocks with a choice over m and unblocks with one over q, in DP2 with r and m
 unfoldable pub sumBy : Counts → Task → ℕ
-sumBy c t = cond (eqb (t .queue) 1) (sumDP1 c) (cond (eqb (t .queue) 2) (sumDP2 c) (sumFP c))
+sumBy c t = cond (eqb (t .queue) 1) (sumDP c (c .m) (c .q)) (cond (eqb (t .queue) 2) (sumDP c (c .r) (c .m)) (sumFP c))
 
 -- 01, "Charges": the charge is 3/2 of the sum, rounded up to a whole tick
 unfoldable pub chargeBy : Counts → Task → ℕ

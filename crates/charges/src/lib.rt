@@ -2,14 +2,13 @@
 ghost use mathlib.Core.Path.{_≡_};
 ghost use mathlib.Core.Bool.{cond};
 ghost use Prim.Native.Nat.{_*_, _≤_, max};
-ghost use lib.Dec.{eqb, ltb};
 ghost use lib.ListN.{take};
 ghost use Rattle.charges.specs.Charges.{
   countsOf,
   choiceDP,
   choiceFP,
-  sumDP1,
-  sumDP2,
+  sumDP,
+  choiceUnblocked,
   sumFP,
   sumBy,
   chargeBy,
@@ -36,18 +35,11 @@ fn times(count: u8, figure: u16) -> u64
     count as u64 * figure as u64
 }
 
-// 1 for a task of the queue.
-fn one_if(queue: u8, wanted: u8) -> u8
-    ensures { λ r. ⌜ (r ≡ cond (eqb queue wanted) 1 0) × (r ≤ 1) ⌝ }
+// 1 where the test holds: for a task of a queue, for a queue that is not empty.
+fn one_if(test: bool) -> u8
+    ensures { λ r. ⌜ (r ≡ cond test 1 0) × (r ≤ 1) ⌝ }
 {
-    if queue == wanted { 1 } else { 0 }
-}
-
-// 1 for a queue that is not empty.
-fn one_used(tasks: u8) -> u8
-    ensures { λ r. ⌜ (r ≡ cond (ltb 0 tasks) 1 0) × (r ≤ 1) ⌝ }
-{
-    if 0 < tasks { 1 } else { 0 }
+    if test { 1 } else { 0 }
 }
 
 fn larger(a: u8, b: u8) -> u8
@@ -68,17 +60,19 @@ impl Counts {
         let mut i: usize = 0;
         while i < n {
             let queue = tasks[i].queue;
-            q += one_if(queue, 1);
-            s += one_if(queue, 2);
-            f += one_if(queue, 3);
+            q += one_if(queue == 1);
+            s += one_if(queue == 2);
+            f += one_if(queue == 3);
             i += 1;
         }
-        let k = one_used(q) + one_used(s) + one_used(f);
+        let k = one_if(0 < q) + one_if(0 < s) + one_if(0 < f);
+        let all = n as u8;
+        let r = q + s;
         Self {
             board,
-            n: n as u8,
+            n: all,
             q,
-            r: q + s,
+            r,
             k,
             m: larger(q, s),
         }
@@ -103,20 +97,23 @@ impl Counts {
         select as u64 + b
     }
 
-    fn sum_dp1(self) -> u64
-        ensures { λ r. ⌜ (r ≡ sumDP1 self) × (r ≤ 100000000) ⌝ }
+    // What a task is charged for that blocks with a choice over so many tasks, and unblocks with one over so many.
+    fn sum_dp(self, blocked: u8, unblocked: u8) -> u64
+        ensures { λ r. ⌜ (r ≡ sumDP self blocked unblocked) × (r ≤ 100000000) ⌝ }
     {
         let block = self.board.dp_block;
         let unblock = self.board.dp_unblock;
-        block as u64 + self.choice_dp(self.m) + unblock as u64 + self.choice_dp(self.q)
+        block as u64 + self.choice_dp(blocked) + unblock as u64 + self.choice_dp(unblocked)
     }
 
-    fn sum_dp2(self) -> u64
-        ensures { λ r. ⌜ (r ≡ sumDP2 self) × (r ≤ 100000000) ⌝ }
+    // The choice when an FP task unblocks: among the DP tasks, if there are any.
+    fn choice_unblocked(self) -> u64
+        ensures { λ r. ⌜ (r ≡ choiceUnblocked self) × (r ≤ 33488385) ⌝ }
     {
-        let block = self.board.dp_block;
-        let unblock = self.board.dp_unblock;
-        block as u64 + self.choice_dp(self.r) + unblock as u64 + self.choice_dp(self.m)
+        if 0 < self.r {
+            return self.choice_dp(self.m);
+        }
+        self.choice_fp()
     }
 
     fn sum_fp(self) -> u64
@@ -125,14 +122,8 @@ impl Counts {
     {
         let block = self.board.fp_block;
         let unblock = self.board.fp_unblock;
-        let r = self.r;
-        let all = times(self.n - r, self.board.fp_block_task);
-        let choice = self.choice_fp();
-        if 0 < r {
-            block as u64 + all + choice + unblock as u64 + self.choice_dp(self.m)
-        } else {
-            block as u64 + all + choice + unblock as u64 + choice
-        }
+        let all = times(self.n - self.r, self.board.fp_block_task);
+        block as u64 + all + self.choice_fp() + unblock as u64 + self.choice_unblocked()
     }
 
     // A task's sum is that of its own queue.
@@ -142,8 +133,8 @@ impl Counts {
     {
         let queue = task.queue;
         match queue {
-            1 => self.sum_dp1(),
-            2 => self.sum_dp2(),
+            1 => self.sum_dp(self.m, self.q),
+            2 => self.sum_dp(self.r, self.m),
             _ => self.sum_fp(),
         }
     }

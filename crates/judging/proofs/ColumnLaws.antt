@@ -1,7 +1,7 @@
--- The laws of the lists that judging works on: they are the tasks' queues, periods and loads, and in range.
+-- The laws of the columns that judging works on: they have an entry for each task, and are in range.
 -- Assumes nothing.
 use Prim.Native.Nat.{ℕ, zero, suc, _+_, _≤_, _<_}
-use mathlib.Core.Path.{_≡_, refl, sym, ap, subst, _∙_}
+use mathlib.Core.Path.{_≡_, refl, sym, ap, _∙_}
 use mathlib.Core.Bool.{Bool}
 use mathlib.Core.List.{List, [], _∷_, _++_, map, map-append}
 use native.Mathlib.Nat.{le-of-suc-le-suc, not-suc-le-zero, le-trans}
@@ -18,9 +18,8 @@ use Rattle.table.proofs.SumLaws.{every-at}
 use Rattle.table.proofs.OrderLaws.{TaskRange, task-range}
 use Rattle.charges.specs.Charges.{loadOf}
 use Rattle.charges.proofs.ChargeLaws.{load-bound}
-use Rattle.judging.specs.Periods.{at}
+use Rattle.judging.specs.Columns.{at, columnsOf}
 use Rattle.judging.specs.Ranges.{InRange}
-use Rattle.judging.specs.Verdicts.{queuesOf, periodsOf, loadsOf}
 
 module _ {A : Type 0} where
   -- an entry of a column
@@ -48,45 +47,43 @@ module _ {A : Type 0} where
   getD-any (x ∷ xs) zero d e h = refl
   getD-any (x ∷ xs) (suc i) d e h = getD-any xs i d e (le-of-suc-le-suc h)
 
--- each column has as many entries as there are tasks
-pub queues-length : (tasks : List Task) → length (queuesOf tasks) ≡ length tasks
-unfolding queuesOf
-queues-length tasks = length-map tasks (λ (t : Task). t .queue)
+module _ (tasks : List Task) (board : Board) where
+  -- each column has as many entries as there are tasks
+  pub queues-length : length ((columnsOf tasks board) .queues) ≡ length tasks
+  unfolding columnsOf
+  queues-length = length-map tasks (λ (t : Task). t .queue)
 
-pub periods-length : (tasks : List Task) → length (periodsOf tasks) ≡ length tasks
-unfolding periodsOf
-periods-length tasks = length-map tasks (λ (t : Task). t .period)
+  pub periods-length : length ((columnsOf tasks board) .periods) ≡ length tasks
+  unfolding columnsOf
+  periods-length = length-map tasks (λ (t : Task). t .period)
 
-pub loads-length : (tasks : List Task) (board : Board) → length (loadsOf tasks board) ≡ length tasks
-unfolding loadsOf
-loads-length tasks board = length-map tasks (loadOf tasks board)
+  pub loads-length : length ((columnsOf tasks board) .loads) ≡ length tasks
+  unfolding columnsOf
+  loads-length = length-map tasks (loadOf tasks board)
 
--- the columns of a table are in range, if it has a task and is well formed or if it has none
-pub columns-range : (tasks : List Task) (sems : List Sem) (board : Board) (present : Bool) → length tasks ≤ 64
-    → (1 ≤ length tasks → WellFormed tasks sems board present) → InRange (queuesOf tasks) (periodsOf tasks) (loadsOf tasks board)
-unfolding queuesOf periodsOf loadsOf
-columns-range tasks sems board present fit wf =
-    let n = length-map tasks (λ (t : Task). t .queue) in
-    let p = length-map tasks (λ (t : Task). t .period) in
-    let l = length-map tasks (loadOf tasks board) in
-    let below : (j : ℕ) → j < length (map (λ (t : Task). t .queue) tasks) → j < length tasks = λ j h. omega (arith, n) in
-    let formed : (j : ℕ) → j < length tasks → WellFormed tasks sems board present = λ j h. wf (omega arith) in
-    let ranges : (j : ℕ) → j < length tasks → TaskRange (getD tasks j blankTask) =
-    λ j h. task-range (getD tasks j blankTask) (every-at taskInRange tasks (formed j h .taskRanges) j h blankTask)
-    in
-    record {
-      periodsLength = p ∙ sym n;
-      loadsLength = l ∙ sym n;
-      fit = omega (arith, n);
-      periodsLeast =
-          λ j h.
-          subst (λ (x : ℕ). 1000 ≤ x) (sym (at-map (λ (t : Task). t .period) tasks j blankTask (below j h))) (ranges j (below j h) .periodLeast);
-      periodsMost =
-          λ j h.
-          subst (λ (x : ℕ). x ≤ 100000000) (sym (at-map (λ (t : Task). t .period) tasks j blankTask (below j h))) (ranges j (below j h) .periodMost);
-      loadsMost =
-          λ j h.
-          subst (λ (x : ℕ). x ≤ 1000000000) (sym (at-map (loadOf tasks board) tasks j blankTask (below j h)))
-          (load-bound tasks board (getD tasks j blankTask) fit (formed j (below j h) .figures)
-          (le-trans (ranges j (below j h) .costMost) (ranges j (below j h) .periodMost)));
-    }
+  -- they are in range, if the table has a task and is well formed or if it has none
+  pub columns-range : (sems : List Sem) (present : Bool) → length tasks ≤ 64 → (1 ≤ length tasks → WellFormed tasks sems board present)
+      → InRange (columnsOf tasks board)
+  unfolding columnsOf
+  columns-range sems present fit wf =
+      let n = queues-length in
+      let below : (j : ℕ) → j < length (map (λ (t : Task). t .queue) tasks) → j < length tasks = λ j h. omega (arith, n) in
+      let formed : (j : ℕ) → j < length tasks → WellFormed tasks sems board present = λ j h. wf (omega arith) in
+      let ranges : (j : ℕ) → j < length tasks → TaskRange (getD tasks j blankTask) =
+      λ j h. task-range (getD tasks j blankTask) (every-at taskInRange tasks (formed j h .taskRanges) j h blankTask)
+      in
+      record {
+        fit = omega (arith, n);
+        periodsLength = periods-length ∙ sym n;
+        loadsLength = loads-length ∙ sym n;
+        periods =
+            record {
+              least = λ j h. rw (at-map (λ (t : Task). t .period) tasks j blankTask (below j h)) (ranges j (below j h) .periodLeast);
+              most = λ j h. rw (at-map (λ (t : Task). t .period) tasks j blankTask (below j h)) (ranges j (below j h) .periodMost);
+            };
+        loads =
+            λ j h.
+            rw (at-map (loadOf tasks board) tasks j blankTask (below j h))
+            (load-bound tasks board (getD tasks j blankTask) fit (formed j (below j h) .figures)
+            (le-trans (ranges j (below j h) .costMost) (ranges j (below j h) .periodMost)));
+      }

@@ -1,10 +1,9 @@
 -- The laws of demands: sums by position, counts that rise with t and stand still between multiples, and what a decision says.
 -- Assumes nothing.
 use Prim.Native.Nat.{ℕ, zero, suc, _+_, _*_, _-_, _/_, _≤_, _<_}
-use mathlib.Core.Path.{_≡_, refl, sym, ap, subst, _∙_}
+use mathlib.Core.Path.{_≡_, refl, sym, ap, _∙_}
 use mathlib.Core.Logic.{_⊎_, inl, inr, if-pos, if-neg}
 use mathlib.Core.Bool.{Bool, true, false, cond}
-use mathlib.Core.List.{List}
 use native.Mathlib.Nat.{
   zero-mul,
   add-mul,
@@ -23,12 +22,13 @@ use native.Mathlib.Decide.{decLe}
 use native.Mathlib.Numerals.{add-one}
 use native.Mathlib.Omega.{arith}
 use lib.Dec.{eqb, leb}
-use lib.ListN.{length, take, replicate, getD-replicate}
+use lib.ListN.{length, replicate, getD-replicate}
 use lib.Seq.{getD-take, length-take-le}
 use borrow.Author.Tests.{leb-true, leb-false, le-leb, lt-leb, eq-eqb, ne-eqb}
-use Rattle.judging.specs.Periods.{at}
-use Rattle.judging.specs.Ranges.{PeriodsInRange, InRange}
-use Rattle.judging.specs.Demands.{sumTo, ceil, star, counted, demandDP2, demandFP, TimeUpTo, timeUpTo, decided}
+use Rattle.judging.specs.declared.Columns.{Columns}
+use Rattle.judging.specs.Columns.{at, columns, firstTasks}
+use Rattle.judging.specs.Ranges.{InRange}
+use Rattle.judging.specs.Demands.{sumTo, ceil, star, counted, demandDP2, demandFP, TimeUpTo, timeUpTo, decided, hasTime}
 
 -- sums by position
 pub sumTo-more : (n : ℕ) (f : ℕ → ℕ) → sumTo (n + 1) f ≡ sumTo n f + f n
@@ -101,19 +101,19 @@ counted-mono queue s t p own h l = go (eqb queue 1) (eqb queue 2)
     go false false = omega arith
 
 -- both demands rise with t
-pub demand-dp2-mono : (queues periods loads : List ℕ) (own s t : ℕ) → ((j : ℕ) → j < length queues → 0 < at periods j) → s ≤ t
-    → demandDP2 queues periods loads own s ≤ demandDP2 queues periods loads own t
+pub demand-dp2-mono : (c : Columns) (own s t : ℕ) → ((j : ℕ) → j < length (c .queues) → 0 < at (c .periods) j) → s ≤ t
+    → demandDP2 c own s ≤ demandDP2 c own t
 unfolding demandDP2
-demand-dp2-mono queues periods loads own s t pos l =
-    sumTo-mono (length queues) (λ j. at loads j * counted (at queues j) s (at periods j) own) (λ j. at loads j * counted (at queues j) t (at periods j) own)
-    (λ j k. mul-le-mul-left (at loads j) (counted-mono (at queues j) s t (at periods j) own (pos j k) l))
+demand-dp2-mono c own s t pos l =
+    sumTo-mono (length (c .queues)) (λ j. at (c .loads) j * counted (at (c .queues) j) s (at (c .periods) j) own) (λ j. at (c .loads) j * counted (at (c .queues) j) t (at (c .periods) j) own)
+    (λ j k. mul-le-mul-left (at (c .loads) j) (counted-mono (at (c .queues) j) s t (at (c .periods) j) own (pos j k) l))
 
-pub demand-fp-mono : (periods loads : List ℕ) (i s t : ℕ) → ((j : ℕ) → j ≤ i → 0 < at periods j) → s ≤ t
-    → demandFP periods loads i s ≤ demandFP periods loads i t
+pub demand-fp-mono : (c : Columns) (i s t : ℕ) → ((j : ℕ) → j ≤ i → 0 < at (c .periods) j) → s ≤ t
+    → demandFP c i s ≤ demandFP c i t
 unfolding demandFP
-demand-fp-mono periods loads i s t pos l =
-    sumTo-mono (suc i) (λ j. at loads j * ceil s (at periods j)) (λ j. at loads j * ceil t (at periods j))
-    (λ j k. mul-le-mul-left (at loads j) (ceil-mono s t (at periods j) (pos j (le-of-suc-le-suc k)) l))
+demand-fp-mono c i s t pos l =
+    sumTo-mono (suc i) (λ j. at (c .loads) j * ceil s (at (c .periods) j)) (λ j. at (c .loads) j * ceil t (at (c .periods) j))
+    (λ j k. mul-le-mul-left (at (c .loads) j) (ceil-mono s t (at (c .periods) j) (pos j (le-of-suc-le-suc k)) l))
 
 -- from a time to the next multiple of the period a count stands still
 ceil-next : (t s p : ℕ) → 0 < p → t < s → s ≤ (t / p + 1) * p → ceil s p ≡ t / p + 1
@@ -129,13 +129,13 @@ counted-still : (queue t s r p own : ℕ) → 0 < p → t < s → s ≤ r → r 
 unfolding counted star
 counted-still queue t s r p own h l k m = rw (ceil-still t s r p h l k m)
 
-pub demand-still : (queues periods loads : List ℕ) (own t s r : ℕ) → ((j : ℕ) → j < length queues → 0 < at periods j)
-    → ((j : ℕ) → j < length queues → r ≤ (t / at periods j + 1) * at periods j) → t < s → s ≤ r
-    → demandDP2 queues periods loads own s ≡ demandDP2 queues periods loads own r
+pub demand-still : (c : Columns) (own t s r : ℕ) → ((j : ℕ) → j < length (c .queues) → 0 < at (c .periods) j)
+    → ((j : ℕ) → j < length (c .queues) → r ≤ (t / at (c .periods) j + 1) * at (c .periods) j) → t < s → s ≤ r
+    → demandDP2 c own s ≡ demandDP2 c own r
 unfolding demandDP2
-demand-still queues periods loads own t s r pos near l k =
-    sumTo-same (length queues) (λ j. at loads j * counted (at queues j) s (at periods j) own) (λ j. at loads j * counted (at queues j) r (at periods j) own)
-    (λ j h. ap (λ (c : ℕ). at loads j * c) (counted-still (at queues j) t s r (at periods j) own (pos j h) l k (near j h)))
+demand-still c own t s r pos near l k =
+    sumTo-same (length (c .queues)) (λ j. at (c .loads) j * counted (at (c .queues) j) s (at (c .periods) j) own) (λ j. at (c .loads) j * counted (at (c .queues) j) r (at (c .periods) j) own)
+    (λ j h. ap (λ (n : ℕ). at (c .loads) j * n) (counted-still (at (c .queues) j) t s r (at (c .periods) j) own (pos j h) l k (near j h)))
 
 -- what a decision says
 pub decided-yes : {P : Type 0} (d : Dec P) → P → decided d ≡ true
@@ -150,16 +150,6 @@ pub yes-decided : {P : Type 0} (d : Dec P) → decided d ≡ true → P
 unfolding decided
 yes-decided (yes p) e = p
 yes-decided (no n) e = let z : _≡_ {A = ℕ} 0 1 = cc in absurd (omega arith)
-
-pub no-decided : {P : Type 0} (d : Dec P) → decided d ≡ false → P → ⊥
-unfolding decided
-no-decided (yes p) e q = let z : _≡_ {A = ℕ} 0 1 = cc in omega arith
-no-decided (no n) e q = n q
-
--- two decisions of one question answer alike
-pub decided-same : {P : Type 0} (d e : Dec P) → decided d ≡ decided e
-decided-same (yes p) e = decided-yes (yes p) p ∙ sym (decided-yes e p)
-decided-same (no n) e = decided-no (no n) n ∙ sym (decided-no e n)
 
 -- a search that has found nothing up to the limit decides
 pub decided-none : (demand : ℕ → ℕ) (limit : ℕ) → ((s : ℕ) → 1 ≤ s → s ≤ limit → s < demand s) → decided (timeUpTo demand limit) ≡ false
@@ -209,60 +199,53 @@ le-or-lt m n = go (decLe m n)
 pub decided-demand : (d e : ℕ → ℕ) (limit : ℕ) → ((t : ℕ) → d t ≡ e t) → decided (timeUpTo d limit) ≡ decided (timeUpTo e limit)
 decided-demand d e limit h = ap (λ (f : ℕ → ℕ). decided (timeUpTo f limit)) (λ i t. h t i)
 
--- the tasks up to i, each counted as a DP1 task is, ask for what 14 says
-pub demand-prefix : (ways periods loads : List ℕ) (i own t : ℕ) → length ways ≡ i + 1 → ((j : ℕ) → j < i + 1 → at ways j ≡ 1)
-    → demandDP2 ways (take (i + 1) periods) (take (i + 1) loads) own t ≡ demandFP periods loads i t
-unfolding demandDP2 demandFP
-demand-prefix ways periods loads i own t n one =
-    ap (λ (k : ℕ). sumTo k (λ j. at (take (i + 1) loads) j * counted (at ways j) t (at (take (i + 1) periods) j) own)) (n ∙ add-one i)
-    ∙ sumTo-same (suc i) (λ j. at (take (i + 1) loads) j * counted (at ways j) t (at (take (i + 1) periods) j) own) (λ j. at loads j * ceil t (at periods j))
-    (λ j h.
-    let k : j < i + 1 = omega arith in
-    ap (λ (x : ℕ). x * counted (at ways j) t (at (take (i + 1) periods) j) own) (getD-take (i + 1) loads j 0 k)
-    ∙ ap (λ (x : ℕ). at loads j * x) (sym (counted-whole (at ways j) t (at (take (i + 1) periods) j) own (one j k)))
-    ∙ ap (λ (x : ℕ). at loads j * ceil t x) (getD-take (i + 1) periods j 0 k))
+-- the columns up to i, with each task counted as a DP1 task is
+abbrev pub wholeUpTo : Columns → ℕ → Columns
+wholeUpTo c i = firstTasks (i + 1) (columns (replicate 64 1) (c .periods) (c .loads))
 
--- the lists up to i, with each task counted as a DP1 task is
-module _ (queues periods loads : List ℕ) (i : ℕ) (r : InRange queues periods loads) (l : i < length queues) where
-  pub prefix-ways : length (take {A = ℕ} (i + 1) (replicate 64 1)) ≡ i + 1
-  prefix-ways = length-take-le (i + 1) (replicate 64 1) (omega (arith, r .fit))
+module _ (c : Columns) (i : ℕ) (r : InRange c) (l : i < length (c .queues)) where
+  pub whole-ways : length (wholeUpTo c i .queues) ≡ i + 1
+  whole-ways = length-take-le {A = ℕ} (i + 1) (replicate 64 1) (omega (arith, r .fit))
 
-  pub prefix-periods : length (take (i + 1) periods) ≡ i + 1
-  prefix-periods = length-take-le (i + 1) periods (omega (arith, r .periodsLength))
+  pub whole-periods : length (wholeUpTo c i .periods) ≡ i + 1
+  whole-periods = length-take-le (i + 1) (c .periods) (omega (arith, r .periodsLength))
 
-  pub prefix-loads : length (take (i + 1) loads) ≡ i + 1
-  prefix-loads = length-take-le (i + 1) loads (omega (arith, r .loadsLength))
+  pub whole-loads : length (wholeUpTo c i .loads) ≡ i + 1
+  whole-loads = length-take-le (i + 1) (c .loads) (omega (arith, r .loadsLength))
 
-  prefix-one : (j : ℕ) → j < i + 1 → at (take (i + 1) (replicate 64 1)) j ≡ 1
-  prefix-one j h = getD-take (i + 1) (replicate 64 1) j 0 h ∙ getD-replicate 64 j 1 0 (omega (arith, r .fit))
+  whole-one : (j : ℕ) → j < i + 1 → at (wholeUpTo c i .queues) j ≡ 1
+  whole-one j h = getD-take (i + 1) (replicate 64 1) j 0 h ∙ getD-replicate 64 j 1 0 (omega (arith, r .fit))
 
-  pub prefix-range : InRange (take (i + 1) (replicate 64 1)) (take (i + 1) periods) (take (i + 1) loads)
-  prefix-range =
-      let n = prefix-ways in
-      let below : (j : ℕ) → j < length (take {A = ℕ} (i + 1) (replicate 64 1)) → j < i + 1 = λ j h. omega (arith, n) in
+  pub whole-range : InRange (wholeUpTo c i)
+  whole-range =
+      let n = whole-ways in
+      let below : (j : ℕ) → j < length (wholeUpTo c i .queues) → j < i + 1 = λ j h. omega (arith, n) in
+      let within : (j : ℕ) → j < length (wholeUpTo c i .queues) → j < length (c .queues) = λ j h. omega (arith, below j h) in
       record {
-        periodsLength = prefix-periods ∙ sym n;
-        loadsLength = prefix-loads ∙ sym n;
         fit = omega (arith, n, r .fit);
-        periodsLeast =
-            λ j h. subst (λ (x : ℕ). 1000 ≤ x) (sym (getD-take (i + 1) periods j 0 (below j h))) (r .periodsLeast j (omega (arith, below j h)));
-        periodsMost =
-            λ j h. subst (λ (x : ℕ). x ≤ 100000000) (sym (getD-take (i + 1) periods j 0 (below j h))) (r .periodsMost j (omega (arith, below j h)));
-        loadsMost =
-            λ j h. subst (λ (x : ℕ). x ≤ 1000000000) (sym (getD-take (i + 1) loads j 0 (below j h))) (r .loadsMost j (omega (arith, below j h)));
+        periodsLength = whole-periods ∙ sym n;
+        loadsLength = whole-loads ∙ sym n;
+        periods =
+            record {
+              least = λ j h. rw (getD-take (i + 1) (c .periods) j 0 (below j h)) (r .periods .least j (within j h));
+              most = λ j h. rw (getD-take (i + 1) (c .periods) j 0 (below j h)) (r .periods .most j (within j h));
+            };
+        loads = λ j h. rw (getD-take (i + 1) (c .loads) j 0 (below j h)) (r .loads j (within j h));
       }
 
-  pub prefix-decides : (limit : ℕ)
-      → decided (timeUpTo (demandDP2 (take (i + 1) (replicate 64 1)) (take (i + 1) periods) (take (i + 1) loads) limit) limit)
-      ≡ decided (timeUpTo (demandFP periods loads i) limit)
-  prefix-decides limit =
-      decided-demand (demandDP2 (take (i + 1) (replicate 64 1)) (take (i + 1) periods) (take (i + 1) loads) limit) (demandFP periods loads i) limit
-      (λ t. demand-prefix (take (i + 1) (replicate 64 1)) periods loads i limit t prefix-ways prefix-one)
+  -- they ask for what 14 says
+  whole-demand : (own t : ℕ) → demandDP2 (wholeUpTo c i) own t ≡ demandFP c i t
+  unfolding demandDP2 demandFP
+  whole-demand own t =
+      let w = wholeUpTo c i in
+      let f : ℕ → ℕ = λ j. at (w .loads) j * counted (at (w .queues) j) t (at (w .periods) j) own in
+      ap (λ (k : ℕ). sumTo k f) (whole-ways ∙ add-one i)
+      ∙ sumTo-same (suc i) f (λ j. at (c .loads) j * ceil t (at (c .periods) j))
+      (λ j h.
+      let k : j < i + 1 = omega arith in
+      ap (λ (x : ℕ). x * counted (at (w .queues) j) t (at (w .periods) j) own) (getD-take (i + 1) (c .loads) j 0 k)
+      ∙ ap (λ (x : ℕ). at (c .loads) j * x) (sym (counted-whole (at (w .queues) j) t (at (w .periods) j) own (whole-one j k)))
+      ∙ ap (λ (x : ℕ). at (c .loads) j * ceil t x) (getD-take (i + 1) (c .periods) j 0 k))
 
--- the periods alone
-pub periods-range : {queues periods loads : List ℕ} → InRange queues periods loads → PeriodsInRange periods
-periods-range r =
-    record {
-      least = λ j h. r .periodsLeast j (omega (arith, r .periodsLength));
-      most = λ j h. r .periodsMost j (omega (arith, r .periodsLength));
-    }
+  pub whole-decides : (limit : ℕ) → hasTime (wholeUpTo c i) limit ≡ decided (timeUpTo (demandFP c i) limit)
+  whole-decides limit = decided-demand (demandDP2 (wholeUpTo c i) limit) (demandFP c i) limit (whole-demand limit)

@@ -13,16 +13,16 @@ use Rattle.table.specs.declared.Found.{Found}
 use Rattle.table.specs.declared.Found.the-variants.{At, Nothing}
 use Rattle.table.specs.Refusals.{firstOf}
 use Rattle.judging.specs.declared.Outcome.{Outcome}
-use Rattle.judging.specs.Periods.{at, gcdIn, gcdOf, lcmOf, sharedPeriod, tooLong, overFull}
+use Rattle.judging.specs.declared.Columns.{Columns}
+use Rattle.judging.specs.Columns.{at, columns}
+use Rattle.judging.specs.Periods.{gcdIn, gcdOf, lcmOf, sharedPeriod, tooLong, overFull}
 use Rattle.judging.specs.Demands.{demandDP2, demandFP, timeUpTo, decided}
 use Rattle.judging.specs.Verdicts.{
   firstBelow,
   found,
   firstLong,
-  lateDP2,
-  lateFP,
-  firstLateDP2,
-  firstLateFP,
+  late,
+  firstLate,
   numberOf,
   placeOf,
   outcomeAt,
@@ -46,10 +46,20 @@ unfoldable pub forcedList : {A : Type 0} → List ℕ → (List ℕ → A) → A
 forcedList [] k = k []
 forcedList (x ∷ xs) k = forced x (λ y. forcedList xs (λ ys. k (y ∷ ys)))
 
-pub forced-list : {A : Type 0} (l : List ℕ) (k : List ℕ → A) → forcedList l k ≡ k l
+forced-list : {A : Type 0} (l : List ℕ) (k : List ℕ → A) → forcedList l k ≡ k l
 unfolding forcedList
 forced-list [] k = refl
 forced-list (x ∷ xs) k = forced-is x (λ y. forcedList xs (λ ys. k (y ∷ ys))) ∙ forced-list xs (λ ys. k (x ∷ ys))
+
+unfoldable pub forcedColumns : {A : Type 0} → Columns → (Columns → A) → A
+forcedColumns c k = forcedList (c .queues) (λ q. forcedList (c .periods) (λ p. forcedList (c .loads) (λ l. k (columns q p l))))
+
+pub forced-columns : {A : Type 0} (c : Columns) (k : Columns → A) → forcedColumns c k ≡ k c
+unfolding forcedColumns
+forced-columns c k =
+    forced-list (c .queues) (λ q. forcedList (c .periods) (λ p. forcedList (c .loads) (λ l. k (columns q p l))))
+    ∙ forced-list (c .periods) (λ p. forcedList (c .loads) (λ l. k (columns (c .queues) p l)))
+    ∙ forced-list (c .loads) (λ l. k (columns (c .queues) (c .periods) l))
 
 -- from t on, with so many steps left
 unfoldable pub fixedFrom : ℕ → (ℕ → ℕ) → ℕ → ℕ → Bool
@@ -95,26 +105,21 @@ module _ (demand : ℕ → ℕ) (limit : ℕ) (rises : (s t : ℕ) → s ≤ t �
   unfolding fixedUpTo Before
   fixed-up-to = fixed-from (suc limit) 1 (omega arith) (omega arith) (λ s l m. absurd (omega arith))
 
--- the tests of 13 and 14, and the outcome, decided so
-unfoldable pub fixedDP2 : List ℕ → List ℕ → List ℕ → ℕ → Bool
-fixedDP2 queues periods loads i = eqb (at queues i) 2 && not (fixedUpTo (demandDP2 queues periods loads (at periods i)) (at periods i))
+-- the tests of 13 and 14 decided so
+unfoldable pub fixedLate : ℕ → Columns → ℕ → Bool
+fixedLate queue c i =
+    let limit = at (c .periods) i in
+    eqb (at (c .queues) i) queue && not (cond (eqb queue 2) (fixedUpTo (demandDP2 c limit) limit) (fixedUpTo (demandFP c i) limit))
 
-unfoldable pub fixedFP : List ℕ → List ℕ → List ℕ → ℕ → Bool
-fixedFP queues periods loads i = eqb (at queues i) 3 && not (fixedUpTo (demandFP periods loads i) (at periods i))
-
-dp2-same : (queues periods loads : List ℕ) (i : ℕ) → ((j : ℕ) → j < length queues → 0 < at periods j)
-    → fixedDP2 queues periods loads i ≡ lateDP2 queues periods loads i
-unfolding fixedDP2 lateDP2
-dp2-same queues periods loads i pos =
-    ap (λ (b : Bool). eqb (at queues i) 2 && not b)
-    (fixed-up-to (demandDP2 queues periods loads (at periods i)) (at periods i) (λ s t l. demand-dp2-mono queues periods loads (at periods i) s t pos l))
-
-fp-same : (queues periods loads : List ℕ) (i : ℕ) → i < length queues → ((j : ℕ) → j < length queues → 0 < at periods j)
-    → fixedFP queues periods loads i ≡ lateFP queues periods loads i
-unfolding fixedFP lateFP
-fp-same queues periods loads i h pos =
-    ap (λ (b : Bool). eqb (at queues i) 3 && not b)
-    (fixed-up-to (demandFP periods loads i) (at periods i) (λ s t l. demand-fp-mono periods loads i s t (λ j k. pos j (omega arith)) l))
+late-same : (queue : ℕ) (c : Columns) (i : ℕ) → i < length (c .queues) → ((j : ℕ) → j < length (c .queues) → 0 < at (c .periods) j)
+    → fixedLate queue c i ≡ late queue c i
+unfolding fixedLate late
+late-same queue c i h pos =
+    let limit = at (c .periods) i in
+    rw (
+      fixed-up-to (demandDP2 c limit) limit (λ s t l. demand-dp2-mono c limit s t pos l),
+      fixed-up-to (demandFP c i) limit (λ s t l. demand-fp-mono c i s t (λ j k. pos j (omega arith)) l),
+    )
 
 -- the least common multiple, each remainder computed once
 unfoldable pub gcdForced : ℕ → ℕ → ℕ → ℕ
@@ -134,58 +139,58 @@ lcm-forced : (a b : ℕ) → lcmForced a b ≡ lcmOf a b
 unfolding lcmForced lcmOf gcdOf
 lcm-forced a b = ap (λ (g : ℕ). a * (b / g)) (gcd-forced (suc b) a b)
 
+-- the shared period, each step computed once
+unfoldable pub sharedForced : Columns → ℕ → ℕ
+sharedForced c zero = 1
+sharedForced c (suc i) = forced (sharedForced c i) (λ h. cond (leb (at (c .queues) i) 2) (lcmForced h (at (c .periods) i)) h)
+
+pub shared-forced : (c : Columns) (i : ℕ) → sharedForced c i ≡ sharedPeriod c i
+unfolding sharedForced sharedPeriod
+shared-forced c zero = refl
+shared-forced c (suc i) =
+    forced-is (sharedForced c i) (λ h. cond (leb (at (c .queues) i) 2) (lcmForced h (at (c .periods) i)) h)
+    ∙ rw (shared-forced c i, lcm-forced (sharedPeriod c i) (at (c .periods) i))
+
 -- the first task at which the shared period is too long, with the shared period so far
-unfoldable pub longFrom : List ℕ → List ℕ → ℕ → ℕ → ℕ → Found
-longFrom queues periods zero i h = Nothing
-longFrom queues periods (suc k) i h =
-    forced (cond (leb (at queues i) 2) (lcmForced h (at periods i)) h)
-    (λ g. cond (ltb 1000000000000 g) (At i) (longFrom queues periods k (suc i) g))
+unfoldable pub longFrom : Columns → ℕ → ℕ → ℕ → Found
+longFrom c zero i h = Nothing
+longFrom c (suc k) i h =
+    forced (cond (leb (at (c .queues) i) 2) (lcmForced h (at (c .periods) i)) h)
+    (λ g. cond (ltb 1000000000000 g) (At i) (longFrom c k (suc i) g))
 
-module _ (queues periods : List ℕ) where
-  long-from : (n k i h : ℕ) → n ≡ i + k → h ≡ sharedPeriod queues periods i → firstBelow i (tooLong queues periods) ≡ Nothing
-      → longFrom queues periods k i h ≡ firstBelow n (tooLong queues periods)
+module _ (c : Columns) where
+  long-from : (n k i h : ℕ) → n ≡ i + k → h ≡ sharedPeriod c i → firstBelow i (tooLong c) ≡ Nothing
+      → longFrom c k i h ≡ firstBelow n (tooLong c)
   unfolding longFrom
-  long-from n zero i h e s f = sym f ∙ ap (λ (m : ℕ). firstBelow m (tooLong queues periods)) (omega arith)
+  long-from n zero i h e s f = sym f ∙ ap (λ (m : ℕ). firstBelow m (tooLong c)) (omega arith)
   long-from n (suc k) i h e s f =
-      forced-is (cond (leb (at queues i) 2) (lcmForced h (at periods i)) h) (λ g. cond (ltb 1000000000000 g) (At i) (longFrom queues periods k (suc i) g))
-      ∙ go (cond (leb (at queues i) 2) (lcmForced h (at periods i)) h) (ltb 1000000000000 (cond (leb (at queues i) 2) (lcmForced h (at periods i)) h))
-      (ap (λ (l : ℕ). cond (leb (at queues i) 2) l h) (lcm-forced h (at periods i)) ∙ shared-suc queues periods i h s) refl (long-from n k (suc i))
+      forced-is (cond (leb (at (c .queues) i) 2) (lcmForced h (at (c .periods) i)) h) (λ g. cond (ltb 1000000000000 g) (At i) (longFrom c k (suc i) g))
+      ∙ go (cond (leb (at (c .queues) i) 2) (lcmForced h (at (c .periods) i)) h) (ltb 1000000000000 (cond (leb (at (c .queues) i) 2) (lcmForced h (at (c .periods) i)) h))
+      (ap (λ (l : ℕ). cond (leb (at (c .queues) i) 2) l h) (lcm-forced h (at (c .periods) i)) ∙ shared-suc c i h s) refl (long-from n k (suc i))
     where
-      go : (g : ℕ) (t : Bool) → g ≡ sharedPeriod queues periods (suc i) → ltb 1000000000000 g ≡ t
-          → ((g : ℕ) → n ≡ suc i + k → g ≡ sharedPeriod queues periods (suc i) → firstBelow (suc i) (tooLong queues periods) ≡ Nothing
-          → longFrom queues periods k (suc i) g ≡ firstBelow n (tooLong queues periods))
-          → cond t (At i) (longFrom queues periods k (suc i) g) ≡ firstBelow n (tooLong queues periods)
-      go g true es et rest = sym (first-hit (tooLong queues periods) n i (omega arith) (long-test queues periods i g true es et) f)
-      go g false es et rest = rest g (omega arith) es (first-next (tooLong queues periods) i (long-test queues periods i g false es et) f)
+      go : (g : ℕ) (t : Bool) → g ≡ sharedPeriod c (suc i) → ltb 1000000000000 g ≡ t
+          → ((g : ℕ) → n ≡ suc i + k → g ≡ sharedPeriod c (suc i) → firstBelow (suc i) (tooLong c) ≡ Nothing
+          → longFrom c k (suc i) g ≡ firstBelow n (tooLong c))
+          → cond t (At i) (longFrom c k (suc i) g) ≡ firstBelow n (tooLong c)
+      go g true es et rest = sym (first-hit (tooLong c) n i (omega arith) (long-test c i g true es et) f)
+      go g false es et rest = rest g (omega arith) es (first-next (tooLong c) i (long-test c i g false es et) f)
 
-unfoldable pub fixedOutcome : List ℕ → List ℕ → List ℕ → Outcome
-fixedOutcome queues periods loads =
-    let long = longFrom queues periods (length queues) 0 1 in
-    let dp2 = firstBelow (length queues) (fixedDP2 queues periods loads) in
-    let fp = firstBelow (length queues) (fixedFP queues periods loads) in
-    let number =
-    firstOf
-    ((7, eqb (length queues) 0)
-    ∷ (10, found long)
-    ∷ (11, overFull queues periods loads 1)
-    ∷ (12, overFull queues periods loads 2)
-    ∷ (13, found dp2)
-    ∷ (14, found fp)
-    ∷ [])
-    in
+-- the outcome
+unfoldable pub fixedOutcome : Columns → Outcome
+fixedOutcome c =
+    let n = length (c .queues) in
+    let long = longFrom c n 0 1 in
+    let dp2 = firstBelow n (fixedLate 2 c) in
+    let fp = firstBelow n (fixedLate 3 c) in
+    let number = firstOf ((7, eqb n 0) ∷ (10, found long) ∷ (11, overFull c 1) ∷ (12, overFull c 2) ∷ (13, found dp2) ∷ (14, found fp) ∷ []) in
     outcomeAt number (cond (eqb number 10) long (cond (eqb number 13) dp2 (cond (eqb number 14) fp Nothing)))
 
-pub fixed-outcome : (queues periods loads : List ℕ) → ((j : ℕ) → j < length queues → 0 < at periods j)
-    → fixedOutcome queues periods loads ≡ outcomeOf queues periods loads
-unfolding fixedOutcome outcomeOf numberOf placeOf firstLong firstLateDP2 firstLateFP
-fixed-outcome queues periods loads pos =
-    let dp2 : firstBelow (length queues) (fixedDP2 queues periods loads) ≡ firstBelow (length queues) (lateDP2 queues periods loads) =
-    first-same (fixedDP2 queues periods loads) (lateDP2 queues periods loads) (length queues) (λ i h. dp2-same queues periods loads i pos)
+pub fixed-outcome : (c : Columns) → ((j : ℕ) → j < length (c .queues) → 0 < at (c .periods) j) → fixedOutcome c ≡ outcomeOf c
+unfolding fixedOutcome outcomeOf numberOf placeOf firstLong firstLate
+fixed-outcome c pos =
+    let n = length (c .queues) in
+    let same : (queue : ℕ) → firstBelow n (fixedLate queue c) ≡ firstBelow n (late queue c) =
+    λ queue. first-same (fixedLate queue c) (late queue c) n (λ i h. late-same queue c i h pos)
     in
-    let fp : firstBelow (length queues) (fixedFP queues periods loads) ≡ firstBelow (length queues) (lateFP queues periods loads) =
-    first-same (fixedFP queues periods loads) (lateFP queues periods loads) (length queues) (λ i h. fp-same queues periods loads i h pos)
-    in
-    let long : longFrom queues periods (length queues) 0 1 ≡ firstBelow (length queues) (tooLong queues periods) =
-    long-from queues periods (length queues) (length queues) 0 1 (omega arith) (shared-start queues periods) (first-start (tooLong queues periods))
-    in
-    rw (long, dp2, fp)
+    let long : longFrom c n 0 1 ≡ firstBelow n (tooLong c) = long-from c n n 0 1 (omega arith) (shared-start c) (first-start (tooLong c)) in
+    rw (long, same 2, same 3)

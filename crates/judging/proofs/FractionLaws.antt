@@ -3,7 +3,6 @@
 use Prim.Native.Nat.{ℕ, zero, suc, _+_, _*_, _-_, _/_, _∣_, _≤_, _<_}
 use mathlib.Core.Path.{_≡_, refl, ap, subst, _∙_}
 use mathlib.Core.Bool.{Bool, true, false, cond}
-use mathlib.Core.List.{List}
 use native.Mathlib.Nat.{
   mul-div-cancel',
   mul-pos,
@@ -19,7 +18,9 @@ use native.Mathlib.Omega.{arith}
 use lib.Dec.{leb, ltb}
 use lib.ListN.{length}
 use borrow.Author.Tests.{leb-true, ltb-true, ltb-false, lt-ltb, le-ltb, le-leb, lt-leb}
-use Rattle.judging.specs.Periods.{at, plus, fractions, aboveOne, overFull}
+use Rattle.judging.specs.declared.Columns.{Columns}
+use Rattle.judging.specs.Columns.{at}
+use Rattle.judging.specs.Periods.{plus, fractions, aboveOne, overFull}
 
 -- no denominator is 0
 den-step : (t : Bool) (f : ℕ × ℕ) (c d : ℕ) → 0 < d → 0 < f .1 → 0 < (cond t (plus f (c, d)) f) .1
@@ -48,26 +49,26 @@ above-scaled h f s hp fp e = go (ltb h s) refl
         let a : f .1 * s ≤ f .1 * h = mul-le-mul-left (f .1) (ltb-false h s k) in
         le-ltb (f .1) (f .0) (le-of-mul-le-mul-right (omega (arith, e)) hp)
 
-module _ (queues periods loads : List ℕ) (last h : ℕ) where
+module _ (c : Columns) (last h : ℕ) where
   -- the sum over the first tasks, times the common multiple h
   unfoldable pub scaled : ℕ → ℕ
   scaled zero = 0
-  scaled (suc i) = scaled i + cond (leb (at queues i) last) (at loads i * (h / at periods i)) 0
+  scaled (suc i) = scaled i + cond (leb (at (c .queues) i) last) (at (c .loads) i * (h / at (c .periods) i)) 0
 
   pub scaled-start : 0 ≡ scaled 0
   unfolding scaled
   scaled-start = refl
 
-  scaled-more : (i : ℕ) → scaled (i + 1) ≡ scaled i + cond (leb (at queues i) last) (at loads i * (h / at periods i)) 0
+  scaled-more : (i : ℕ) → scaled (i + 1) ≡ scaled i + cond (leb (at (c .queues) i) last) (at (c .loads) i * (h / at (c .periods) i)) 0
   unfolding scaled
   scaled-more i = ap scaled (add-one i)
 
   -- a task of those queues more, and a task more of another
-  pub scaled-in : (i : ℕ) → at queues i ≤ last → scaled (i + 1) ≡ scaled i + at loads i * (h / at periods i)
-  scaled-in i q = scaled-more i ∙ rw (le-leb (at queues i) last q)
+  pub scaled-in : (i : ℕ) → at (c .queues) i ≤ last → scaled (i + 1) ≡ scaled i + at (c .loads) i * (h / at (c .periods) i)
+  scaled-in i q = scaled-more i ∙ rw (le-leb (at (c .queues) i) last q)
 
-  pub scaled-out : (i : ℕ) → last < at queues i → scaled (i + 1) ≡ scaled i
-  scaled-out i q = scaled-more i ∙ rw (lt-leb (at queues i) last q) (omega arith)
+  pub scaled-out : (i : ℕ) → last < at (c .queues) i → scaled (i + 1) ≡ scaled i
+  scaled-out i q = scaled-more i ∙ rw (lt-leb (at (c .queues) i) last q) (omega arith)
 
   scaled-far : (i k : ℕ) → scaled i ≤ scaled (k + i)
   unfolding scaled
@@ -80,30 +81,30 @@ module _ (queues periods loads : List ℕ) (last h : ℕ) where
   pub scaled-mono : (i n : ℕ) → i ≤ n → scaled i ≤ scaled n
   scaled-mono i n l = subst (λ (m : ℕ). scaled i ≤ scaled m) (sub-add-cancel l) (scaled-far i (n - i))
 
-  den-pos : (i : ℕ) → ((j : ℕ) → j < i → 0 < at periods j) → 0 < fractions queues periods loads last i .1
+  den-pos : (i : ℕ) → ((j : ℕ) → j < i → 0 < at (c .periods) j) → 0 < fractions c last i .1
   unfolding fractions
   den-pos zero pos = omega arith
   den-pos (suc i) pos =
-      den-step (leb (at queues i) last) (fractions queues periods loads last i) (at loads i) (at periods i) (pos i (omega arith))
+      den-step (leb (at (c .queues) i) last) (fractions c last i) (at (c .loads) i) (at (c .periods) i) (pos i (omega arith))
       (den-pos i (λ j l. pos j (omega arith)))
 
   -- numerator times h is denominator times the scaled sum
-  scaled-is : (i : ℕ) → ((j : ℕ) → j < i → at queues j ≤ last → at periods j ∣ h)
-      → fractions queues periods loads last i .0 * h ≡ fractions queues periods loads last i .1 * scaled i
+  scaled-is : (i : ℕ) → ((j : ℕ) → j < i → at (c .queues) j ≤ last → at (c .periods) j ∣ h)
+      → fractions c last i .0 * h ≡ fractions c last i .1 * scaled i
   unfolding fractions scaled
   scaled-is zero div = omega arith
   scaled-is (suc i) div =
-      scaled-step h (leb (at queues i) last) (fractions queues periods loads last i) (at loads i) (at periods i) (scaled i)
-      (λ e. div i (omega arith) (leb-true (at queues i) last e))
+      scaled-step h (leb (at (c .queues) i) last) (fractions c last i) (at (c .loads) i) (at (c .periods) i) (scaled i)
+      (λ e. div i (omega arith) (leb-true (at (c .queues) i) last e))
       (scaled-is i (λ j l q. div j (omega arith) q))
 
   -- the sum is above 1 exactly if the scaled sum is above h
-  pub over-full : 0 < h → ((j : ℕ) → j < length queues → 0 < at periods j) → ((j : ℕ) → j < length queues → at queues j ≤ last → at periods j ∣ h)
-      → overFull queues periods loads last ≡ ltb h (scaled (length queues))
+  pub over-full : 0 < h → ((j : ℕ) → j < length (c .queues) → 0 < at (c .periods) j) → ((j : ℕ) → j < length (c .queues) → at (c .queues) j ≤ last → at (c .periods) j ∣ h)
+      → overFull c last ≡ ltb h (scaled (length (c .queues)))
   unfolding overFull
   over-full hp pos div =
-      above-scaled h (fractions queues periods loads last (length queues)) (scaled (length queues)) hp (den-pos (length queues) pos)
-      (scaled-is (length queues) div)
+      above-scaled h (fractions c last (length (c .queues))) (scaled (length (c .queues))) hp (den-pos (length (c .queues)) pos)
+      (scaled-is (length (c .queues)) div)
 
 -- a common multiple in range, parted by a period in range
 pub part-small : (h p : ℕ) → h ≤ 1000000000000 → 1000 ≤ p → h / p ≤ 1000000000

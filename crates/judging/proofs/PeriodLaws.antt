@@ -4,7 +4,7 @@ use Prim.Native.Nat.{ℕ, zero, suc, _+_, _*_, _/_, _%_, _∣_, _≤_, _<_}
 use mathlib.Core.Path.{_≡_, refl, sym, ap, subst, _∙_}
 use mathlib.Core.Logic.{_⊎_, inl, inr}
 use mathlib.Core.Bool.{Bool, true, false, cond}
-use mathlib.Core.List.{List}
+use mathlib.Core.List.{List, []}
 use native.Mathlib.Nat.{
   mod-lt,
   mul-comm,
@@ -34,7 +34,9 @@ use native.Mathlib.Numerals.{add-one}
 use native.Mathlib.Omega.{arith}
 use lib.Dec.{eqb, leb, ltb}
 use borrow.Author.Tests.{eqb-true, eqb-false, leb-true, leb-false, le-leb, lt-leb, lt-ltb, le-ltb, ne-eqb}
-use Rattle.judging.specs.Periods.{at, gcdIn, gcdOf, lcmOf, sharedPeriod, IsSharedPeriod, tooLong}
+use Rattle.judging.specs.declared.Columns.{Columns}
+use Rattle.judging.specs.Columns.{at, columns}
+use Rattle.judging.specs.Periods.{gcdIn, gcdOf, lcmOf, sharedPeriod, IsSharedPeriod, tooLong}
 
 -- more steps than are needed change nothing
 same-steps : (f g a b : ℕ) → b < f → b < g → gcdIn f a b ≡ gcdIn g a b
@@ -138,95 +140,101 @@ module _ (a b : ℕ) (ha : 0 < a) (hb : 0 < b) where
       dvd-of-mul-dvd-mul-left (a * y) gcd-pos (subst (λ (z : ℕ). z ∣ g * m) e s)
 
 -- what the running number is: it divides every common multiple
-record Running (queues periods : List ℕ) (tasks h : ℕ) : Type 0 where
+record Running (c : Columns) (tasks h : ℕ) : Type 0 where
   positive : 0 < h
-  common : (j : ℕ) → j < tasks → at queues j ≤ 2 → at periods j ∣ h
-  divides : (c : ℕ) → ((j : ℕ) → j < tasks → at queues j ≤ 2 → at periods j ∣ c) → h ∣ c
+  common : (j : ℕ) → j < tasks → at (c .queues) j ≤ 2 → at (c .periods) j ∣ h
+  divides : (m : ℕ) → ((j : ℕ) → j < tasks → at (c .queues) j ≤ 2 → at (c .periods) j ∣ m) → h ∣ m
 
-module _ (queues periods : List ℕ) where
+module _ (c : Columns) where
   -- a DP task more, and a task more that is none
-  run-in : (i h : ℕ) → 0 < at periods i → at queues i ≤ 2 → Running queues periods i h → Running queues periods (suc i) (lcmOf h (at periods i))
+  run-in : (i h : ℕ) → 0 < at (c .periods) i → at (c .queues) i ≤ 2 → Running c i h → Running c (suc i) (lcmOf h (at (c .periods) i))
   run-in i h pos dp r =
       record {
-        positive = lcm-pos h (at periods i) (r .positive) pos;
+        positive = lcm-pos h (at (c .periods) i) (r .positive) pos;
         common = λ j k q. each j q (eq-or-lt-of-le (le-of-suc-le-suc k));
         divides =
-            λ c k.
-            lcm-divides h (at periods i) (r .positive) pos c (r .divides c (λ j l q. k j (omega arith) q)) (k i (omega arith) dp);
+            λ m k.
+            lcm-divides h (at (c .periods) i) (r .positive) pos m (r .divides m (λ j l q. k j (omega arith) q)) (k i (omega arith) dp);
       }
     where
-      each : (j : ℕ) → at queues j ≤ 2 → (j ≡ i) ⊎ (j < i) → at periods j ∣ lcmOf h (at periods i)
-      each j q (inl s) = subst (λ (z : ℕ). at periods z ∣ lcmOf h (at periods i)) (sym s) (lcm-right h (at periods i) (r .positive) pos)
-      each j q (inr l) = dvd-trans (at periods j) (r .common j l q) (lcm-left h (at periods i) (r .positive) pos)
+      each : (j : ℕ) → at (c .queues) j ≤ 2 → (j ≡ i) ⊎ (j < i) → at (c .periods) j ∣ lcmOf h (at (c .periods) i)
+      each j q (inl s) = subst (λ (z : ℕ). at (c .periods) z ∣ lcmOf h (at (c .periods) i)) (sym s) (lcm-right h (at (c .periods) i) (r .positive) pos)
+      each j q (inr l) = dvd-trans (at (c .periods) j) (r .common j l q) (lcm-left h (at (c .periods) i) (r .positive) pos)
 
-  run-out : (i h : ℕ) → 2 < at queues i → Running queues periods i h → Running queues periods (suc i) h
+  run-out : (i h : ℕ) → 2 < at (c .queues) i → Running c i h → Running c (suc i) h
   run-out i h fp r =
       record {
         positive = r .positive;
         common = λ j k q. each j q (eq-or-lt-of-le (le-of-suc-le-suc k));
-        divides = λ c k. r .divides c (λ j l q. k j (omega arith) q);
+        divides = λ m k. r .divides m (λ j l q. k j (omega arith) q);
       }
     where
-      each : (j : ℕ) → at queues j ≤ 2 → (j ≡ i) ⊎ (j < i) → at periods j ∣ h
-      each j q (inl s) = let m : at queues j ≡ at queues i = ap (at queues) s in absurd (omega arith)
+      each : (j : ℕ) → at (c .queues) j ≤ 2 → (j ≡ i) ⊎ (j < i) → at (c .periods) j ∣ h
+      each j q (inl s) = let m : at (c .queues) j ≡ at (c .queues) i = ap (at (c .queues)) s in absurd (omega arith)
       each j q (inr l) = r .common j l q
 
-  run-on : (t : Bool) (i h : ℕ) → leb (at queues i) 2 ≡ t → 0 < at periods i → Running queues periods i h
-      → Running queues periods (suc i) (cond t (lcmOf h (at periods i)) h)
-  run-on true i h e pos r = run-in i h pos (leb-true (at queues i) 2 e) r
-  run-on false i h e pos r = run-out i h (leb-false (at queues i) 2 e) r
+  run-on : (t : Bool) (i h : ℕ) → leb (at (c .queues) i) 2 ≡ t → 0 < at (c .periods) i → Running c i h
+      → Running c (suc i) (cond t (lcmOf h (at (c .periods) i)) h)
+  run-on true i h e pos r = run-in i h pos (leb-true (at (c .queues) i) 2 e) r
+  run-on false i h e pos r = run-out i h (leb-false (at (c .queues) i) 2 e) r
 
-  running : (i : ℕ) → ((j : ℕ) → j < i → 0 < at periods j) → Running queues periods i (sharedPeriod queues periods i)
+  running : (i : ℕ) → ((j : ℕ) → j < i → 0 < at (c .periods) j) → Running c i (sharedPeriod c i)
   unfolding sharedPeriod
   running zero pos =
       record {
         positive = omega arith;
         common = λ j h q. absurd (not-suc-le-zero h);
-        divides = λ c h. ∣ (c, omega arith) ∣₁;
+        divides = λ m h. ∣ (m, omega arith) ∣₁;
       }
   running (suc i) pos =
-      run-on (leb (at queues i) 2) i (sharedPeriod queues periods i) refl (pos i (omega arith)) (running i (λ j h. pos j (omega arith)))
+      run-on (leb (at (c .queues) i) 2) i (sharedPeriod c i) refl (pos i (omega arith)) (running i (λ j h. pos j (omega arith)))
 
   -- the computed shared period is the least positive common multiple of the periods of the DP tasks
-  pub shared-least : (i : ℕ) → ((j : ℕ) → j < i → 0 < at periods j) → IsSharedPeriod queues periods i (sharedPeriod queues periods i)
+  pub shared-least : (i : ℕ) → ((j : ℕ) → j < i → 0 < at (c .periods) j) → IsSharedPeriod c i (sharedPeriod c i)
   shared-least i pos =
       let r = running i pos in
-      record { positive = r .positive; common = r .common; least = λ c k m. le-of-dvd k (r .divides c m) }
+      record { positive = r .positive; common = r .common; least = λ m k d. le-of-dvd k (r .divides m d) }
 
   -- a DP task more, by its part of the period that is not shared yet
-  pub shared-in : (i h g : ℕ) → at queues i ≤ 2 → h ≡ sharedPeriod queues periods i → g ≡ gcdOf h (at periods i)
-      → h * (at periods i / g) ≡ sharedPeriod queues periods (i + 1)
+  pub shared-in : (i h g : ℕ) → at (c .queues) i ≤ 2 → h ≡ sharedPeriod c i → g ≡ gcdOf h (at (c .periods) i)
+      → h * (at (c .periods) i / g) ≡ sharedPeriod c (i + 1)
   unfolding sharedPeriod lcmOf
   shared-in i h g q e k =
-      rw (add-one i, le-leb (at queues i) 2 q)
-      (ap (λ (z : ℕ). h * (at periods i / z)) k ∙ ap (λ (z : ℕ). z * (at periods i / gcdOf z (at periods i))) e)
+      rw (add-one i, le-leb (at (c .queues) i) 2 q)
+      (ap (λ (z : ℕ). h * (at (c .periods) i / z)) k ∙ ap (λ (z : ℕ). z * (at (c .periods) i / gcdOf z (at (c .periods) i))) e)
 
   -- a task more that is no DP task
-  pub shared-out : (i : ℕ) → 2 < at queues i → sharedPeriod queues periods (i + 1) ≡ sharedPeriod queues periods i
+  pub shared-out : (i : ℕ) → 2 < at (c .queues) i → sharedPeriod c (i + 1) ≡ sharedPeriod c i
   unfolding sharedPeriod
-  shared-out i q = rw (add-one i, lt-leb (at queues i) 2 q)
+  shared-out i q = rw (add-one i, lt-leb (at (c .queues) i) 2 q)
 
-  pub shared-start : 1 ≡ sharedPeriod queues periods 0
+  pub shared-start : 1 ≡ sharedPeriod c 0
   unfolding sharedPeriod
   shared-start = refl
 
-  pub shared-suc : (i h : ℕ) → h ≡ sharedPeriod queues periods i
-      → cond (leb (at queues i) 2) (lcmOf h (at periods i)) h ≡ sharedPeriod queues periods (suc i)
+  pub shared-suc : (i h : ℕ) → h ≡ sharedPeriod c i
+      → cond (leb (at (c .queues) i) 2) (lcmOf h (at (c .periods) i)) h ≡ sharedPeriod c (suc i)
   unfolding sharedPeriod
-  shared-suc i h e = ap (λ (z : ℕ). cond (leb (at queues i) 2) (lcmOf z (at periods i)) z) e
+  shared-suc i h e = ap (λ (z : ℕ). cond (leb (at (c .queues) i) 2) (lcmOf z (at (c .periods) i)) z) e
 
-  pub long-test : (i g : ℕ) (t : Bool) → g ≡ sharedPeriod queues periods (suc i) → ltb 1000000000000 g ≡ t → tooLong queues periods i ≡ t
+  pub long-test : (i g : ℕ) (t : Bool) → g ≡ sharedPeriod c (suc i) → ltb 1000000000000 g ≡ t → tooLong c i ≡ t
   unfolding tooLong
   long-test i g t e h = ap (ltb 1000000000000) (sym e) ∙ h
 
   -- the test of 10
-  pub too-long : (i : ℕ) → 1000000000000 < sharedPeriod queues periods (i + 1) → tooLong queues periods i ≡ true
+  pub too-long : (i : ℕ) → 1000000000000 < sharedPeriod c (i + 1) → tooLong c i ≡ true
   unfolding tooLong
-  too-long i h = lt-ltb 1000000000000 (sharedPeriod queues periods (suc i)) (rw (add-one i) at h)
+  too-long i h = lt-ltb 1000000000000 (sharedPeriod c (suc i)) (rw (add-one i) at h)
 
-  pub not-long : (i : ℕ) → sharedPeriod queues periods (i + 1) ≤ 1000000000000 → tooLong queues periods i ≡ false
+  pub not-long : (i : ℕ) → sharedPeriod c (i + 1) ≤ 1000000000000 → tooLong c i ≡ false
   unfolding tooLong
-  not-long i h = le-ltb 1000000000000 (sharedPeriod queues periods (suc i)) (rw (add-one i) at h)
+  not-long i h = le-ltb 1000000000000 (sharedPeriod c (suc i)) (rw (add-one i) at h)
+
+-- loads have no part in the shared period
+pub shared-dated : (queues periods loads : List ℕ) (i : ℕ) → sharedPeriod (columns queues periods []) i ≡ sharedPeriod (columns queues periods loads) i
+unfolding sharedPeriod
+shared-dated queues periods loads zero = refl
+shared-dated queues periods loads (suc i) = rw (shared-dated queues periods loads i)
 
 -- a limit is compared with a product by a quotient
 pub product-above : (limit h part : ℕ) → 0 < part → limit / part < h → limit < h * part

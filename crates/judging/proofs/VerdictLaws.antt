@@ -3,9 +3,9 @@
 use Prim.Native.Nat.{ℕ, zero, suc, _≤_, _<_}
 use mathlib.Core.Path.{_≡_, refl, sym, ap, _∙_}
 use mathlib.Core.Bool.{Bool, true, false, cond}
-use mathlib.Core.List.{List}
+use mathlib.Core.List.{List, []}
 use native.Mathlib.Omega.{arith}
-use lib.Dec.{eqb}
+use lib.Dec.{eqb, ltb}
 use lib.ListN.{length, getD}
 use borrow.Author.Tests.{ltb-false}
 use Rattle.table.specs.declared.Found.{Found}
@@ -13,10 +13,12 @@ use Rattle.table.specs.declared.Found.the-variants.{At, Nothing}
 use Rattle.table.specs.declared.Task.{Task}
 use Rattle.table.specs.Entries.{blankTask}
 use Rattle.table.specs.Refusals.{firstOf}
+use Rattle.judging.specs.declared.Columns.{Columns}
 use Rattle.judging.specs.declared.Outcome.{Outcome}
 use Rattle.judging.specs.declared.Verdict.{Verdict}
 use Rattle.judging.specs.declared.Shared.the-variants.{Above, Within}
-use Rattle.judging.specs.Periods.{at, sharedPeriod, tooLong, overFull}
+use Rattle.judging.specs.Columns.{columns}
+use Rattle.judging.specs.Periods.{sharedPeriod, tooLong, overFull}
 use Rattle.judging.specs.Ranges.{InRange, Common}
 use Rattle.judging.specs.Verdicts.{
   firstBelow,
@@ -24,10 +26,8 @@ use Rattle.judging.specs.Verdicts.{
   firstLong,
   sharedBy,
   sharedOf,
-  lateDP2,
-  lateFP,
-  firstLateDP2,
-  firstLateFP,
+  late,
+  firstLate,
   numberOf,
   placeOf,
   outcomeAt,
@@ -35,99 +35,109 @@ use Rattle.judging.specs.Verdicts.{
   nameOf,
   named,
 }
-use Rattle.judging.proofs.FirstLaws.{first-none, first-found}
-use Rattle.judging.proofs.PeriodLaws.{shared-least}
+use Rattle.judging.proofs.FirstLaws.{first-none, first-same, first-found}
+use Rattle.judging.proofs.PeriodLaws.{shared-least, shared-dated}
 
 module _ (queues periods loads : List ℕ) where
-  -- the two answers about the shared period
-  pub shared-above : (i : ℕ) → Above i ≡ sharedOf queues periods → firstLong queues periods ≡ At i
+  -- the answer about the shared period, for which no loads are lent
+  dated : sharedOf (columns queues periods []) ≡ sharedOf (columns queues periods loads)
+  unfolding sharedOf firstLong tooLong
+  dated =
+      let same = shared-dated queues periods loads in
+      rw (
+        first-same (tooLong (columns queues periods [])) (tooLong (columns queues periods loads)) (length queues)
+            (λ i h. ap (ltb 1000000000000) (same (suc i))),
+        same (length queues),
+      )
+
+  -- its two cases
+  pub shared-above : (i : ℕ) → Above i ≡ sharedOf (columns queues periods []) → firstLong (columns queues periods loads) ≡ At i
   unfolding sharedOf sharedBy
-  shared-above i h = go (firstLong queues periods) h
+  shared-above i h = go (firstLong (columns queues periods loads)) (h ∙ dated)
     where
-      go : (f : Found) → Above i ≡ sharedBy f (sharedPeriod queues periods (length queues)) → f ≡ At i
+      go : (f : Found) → Above i ≡ sharedBy f (sharedPeriod (columns queues periods loads) (length queues)) → f ≡ At i
       go (At j) k = cc
       go Nothing k = let z : _≡_ {A = ℕ} 0 1 = cc in absurd (omega arith)
 
-  pub shared-within : (h : ℕ) → Within h ≡ sharedOf queues periods
-      → (firstLong queues periods ≡ Nothing) × (h ≡ sharedPeriod queues periods (length queues))
+  pub shared-within : (h : ℕ) → Within h ≡ sharedOf (columns queues periods [])
+      → (firstLong (columns queues periods loads) ≡ Nothing) × (h ≡ sharedPeriod (columns queues periods loads) (length queues))
   unfolding sharedOf sharedBy
-  shared-within h e = go (firstLong queues periods) e
+  shared-within h e = go (firstLong (columns queues periods loads)) (e ∙ dated)
     where
-      go : (f : Found) → Within h ≡ sharedBy f (sharedPeriod queues periods (length queues))
-          → (f ≡ Nothing) × (h ≡ sharedPeriod queues periods (length queues))
+      go : (f : Found) → Within h ≡ sharedBy f (sharedPeriod (columns queues periods loads) (length queues))
+          → (f ≡ Nothing) × (h ≡ sharedPeriod (columns queues periods loads) (length queues))
       go (At j) k = let z : _≡_ {A = ℕ} 0 1 = cc in absurd (omega arith)
       go Nothing k = (refl, cc)
 
+module _ (c : Columns) where
   -- a shared period that is not above 10^12 at any task is not
-  shared-most : (n : ℕ) → ((i : ℕ) → i < n → tooLong queues periods i ≡ false) → sharedPeriod queues periods n ≤ 1000000000000
+  shared-most : (n : ℕ) → ((i : ℕ) → i < n → tooLong c i ≡ false) → sharedPeriod c n ≤ 1000000000000
   unfolding tooLong sharedPeriod
   shared-most zero h = omega arith
-  shared-most (suc n) h = ltb-false 1000000000000 (sharedPeriod queues periods (suc n)) (h n (omega arith))
+  shared-most (suc n) h = ltb-false 1000000000000 (sharedPeriod c (suc n)) (h n (omega arith))
 
-  pub shared-common : (last : ℕ) → last ≤ 2 → InRange queues periods loads → firstLong queues periods ≡ Nothing
-      → Common queues periods last (sharedPeriod queues periods (length queues))
+  pub shared-common : (last : ℕ) → last ≤ 2 → InRange c → firstLong c ≡ Nothing
+      → Common c last (sharedPeriod c (length (c .queues)))
   unfolding firstLong
   shared-common last l r e =
-      let s = shared-least queues periods (length queues) (λ j h. omega (arith, r .periodsLeast j h)) in
+      let s = shared-least c (length (c .queues)) (λ j h. omega (arith, r .periods .least j h)) in
       record {
         positive = s .positive;
-        most = shared-most (length queues) (first-none (tooLong queues periods) (length queues) e);
+        most = shared-most (length (c .queues)) (first-none (tooLong c) (length (c .queues)) e);
         multiple = λ j h q. s .common j h (omega arith);
       }
 
-  -- what each way out answers
-  pub outcome-7 : eqb (length queues) 0 ≡ true → outcomeAt 7 Nothing ≡ outcomeOf queues periods loads
+  -- what each way out answers: each module has one test passed more
+  pub outcome-7 : eqb (length (c .queues)) 0 ≡ true → outcomeAt 7 Nothing ≡ outcomeOf c
   unfolding outcomeOf numberOf placeOf firstOf
-  outcome-7 a = rw a
+  outcome-7 h = rw h
 
-  pub outcome-10 : (i : ℕ) → eqb (length queues) 0 ≡ false → firstLong queues periods ≡ At i → outcomeAt 10 (At i) ≡ outcomeOf queues periods loads
-  unfolding outcomeOf numberOf placeOf firstOf found
-  outcome-10 i a b = rw (a, b)
+  module _ (p7 : eqb (length (c .queues)) 0 ≡ false) where
+    pub outcome-10 : (i : ℕ) → firstLong c ≡ At i → outcomeAt 10 (At i) ≡ outcomeOf c
+    unfolding outcomeOf numberOf placeOf firstOf found
+    outcome-10 i h = rw (p7, h)
 
-  pub outcome-11 : eqb (length queues) 0 ≡ false → firstLong queues periods ≡ Nothing → overFull queues periods loads 1 ≡ true
-      → outcomeAt 11 Nothing ≡ outcomeOf queues periods loads
-  unfolding outcomeOf numberOf placeOf firstOf found
-  outcome-11 a b c = rw (a, b, c)
+    module _ (p10 : firstLong c ≡ Nothing) where
+      pub outcome-11 : overFull c 1 ≡ true → outcomeAt 11 Nothing ≡ outcomeOf c
+      unfolding outcomeOf numberOf placeOf firstOf found
+      outcome-11 h = rw (p7, p10, h)
 
-  pub outcome-12 : eqb (length queues) 0 ≡ false → firstLong queues periods ≡ Nothing → overFull queues periods loads 1 ≡ false
-      → overFull queues periods loads 2 ≡ true → outcomeAt 12 Nothing ≡ outcomeOf queues periods loads
-  unfolding outcomeOf numberOf placeOf firstOf found
-  outcome-12 a b c d = rw (a, b, c, d)
+      module _ (p11 : overFull c 1 ≡ false) where
+        pub outcome-12 : overFull c 2 ≡ true → outcomeAt 12 Nothing ≡ outcomeOf c
+        unfolding outcomeOf numberOf placeOf firstOf found
+        outcome-12 h = rw (p7, p10, p11, h)
 
-  pub outcome-13 : (i : ℕ) → eqb (length queues) 0 ≡ false → firstLong queues periods ≡ Nothing → overFull queues periods loads 1 ≡ false
-      → overFull queues periods loads 2 ≡ false → firstLateDP2 queues periods loads ≡ At i → outcomeAt 13 (At i) ≡ outcomeOf queues periods loads
-  unfolding outcomeOf numberOf placeOf firstOf found
-  outcome-13 i a b c d e = rw (a, b, c, d, e)
+        module _ (p12 : overFull c 2 ≡ false) where
+          pub outcome-13 : (i : ℕ) → firstLate 2 c ≡ At i → outcomeAt 13 (At i) ≡ outcomeOf c
+          unfolding outcomeOf numberOf placeOf firstOf found
+          outcome-13 i h = rw (p7, p10, p11, p12, h)
 
-  pub outcome-14 : (i : ℕ) → eqb (length queues) 0 ≡ false → firstLong queues periods ≡ Nothing → overFull queues periods loads 1 ≡ false
-      → overFull queues periods loads 2 ≡ false → firstLateDP2 queues periods loads ≡ Nothing → firstLateFP queues periods loads ≡ At i
-      → outcomeAt 14 (At i) ≡ outcomeOf queues periods loads
-  unfolding outcomeOf numberOf placeOf firstOf found
-  outcome-14 i a b c d e f = rw (a, b, c, d, e, f)
+          module _ (p13 : firstLate 2 c ≡ Nothing) where
+            pub outcome-14 : (i : ℕ) → firstLate 3 c ≡ At i → outcomeAt 14 (At i) ≡ outcomeOf c
+            unfolding outcomeOf numberOf placeOf firstOf found
+            outcome-14 i h = rw (p7, p10, p11, p12, p13, h)
 
-  pub outcome-0 : eqb (length queues) 0 ≡ false → firstLong queues periods ≡ Nothing → overFull queues periods loads 1 ≡ false
-      → overFull queues periods loads 2 ≡ false → firstLateDP2 queues periods loads ≡ Nothing → firstLateFP queues periods loads ≡ Nothing
-      → outcomeAt 0 Nothing ≡ outcomeOf queues periods loads
-  unfolding outcomeOf numberOf placeOf firstOf found
-  outcome-0 a b c d e f = rw (a, b, c, d, e, f)
+            pub outcome-0 : firstLate 3 c ≡ Nothing → outcomeAt 0 Nothing ≡ outcomeOf c
+            unfolding outcomeOf numberOf placeOf firstOf found
+            outcome-0 h = rw (p7, p10, p11, p12, p13, h)
 
   -- the place that is named is that of a task
-  pub place-below : (number i : ℕ) → placeOf queues periods loads number ≡ At i → i < length queues
-  unfolding placeOf firstLong firstLateDP2 firstLateFP
+  place-below : (number i : ℕ) → placeOf c number ≡ At i → i < length (c .queues)
+  unfolding placeOf firstLong firstLate
   place-below number i e = go (eqb number 10) (eqb number 13) (eqb number 14) e
     where
-      go : (a b c : Bool)
-          → cond a (firstBelow (length queues) (tooLong queues periods))
-          (cond b (firstBelow (length queues) (lateDP2 queues periods loads)) (cond c (firstBelow (length queues) (lateFP queues periods loads)) Nothing))
-          ≡ At i → i < length queues
-      go true b c k = first-found (tooLong queues periods) (length queues) i k .0
-      go false true c k = first-found (lateDP2 queues periods loads) (length queues) i k .0
-      go false false true k = first-found (lateFP queues periods loads) (length queues) i k .0
+      go : (x y z : Bool)
+          → cond x (firstBelow (length (c .queues)) (tooLong c))
+          (cond y (firstBelow (length (c .queues)) (late 2 c)) (cond z (firstBelow (length (c .queues)) (late 3 c)) Nothing))
+          ≡ At i → i < length (c .queues)
+      go true y z k = first-found (tooLong c) (length (c .queues)) i k .0
+      go false true z k = first-found (late 2 c) (length (c .queues)) i k .0
+      go false false true k = first-found (late 3 c) (length (c .queues)) i k .0
       go false false false k = let z : _≡_ {A = ℕ} 0 1 = cc in absurd (omega arith)
 
-  pub outcome-below : (i : ℕ) → (outcomeOf queues periods loads) .place ≡ At i → i < length queues
+  pub outcome-below : (i : ℕ) → (outcomeOf c) .place ≡ At i → i < length (c .queues)
   unfolding outcomeOf
-  outcome-below i e = place-below (numberOf queues periods loads) i e
+  outcome-below i e = place-below (numberOf c) i e
 
 -- the verdict of an outcome, by what its place says
 pub named-task : (tasks : List Task) (o : Outcome) (i number : ℕ) → o .place ≡ At i → number ≡ (getD tasks i blankTask) .number

@@ -1,7 +1,6 @@
 -- Tests 13 and 14 (01, "The tests"): there is a whole time t from 1 to the task's period at which the demand is at most t.
 use Prim.Native.Nat.{ℕ, zero, suc, _+_, _*_, _-_, _/_, _≤_, _<_}
 use mathlib.Core.Bool.{Bool, true, false, cond}
-use mathlib.Core.List.{List}
 use mathlib.Core.Logic.{_⊎_, inl, inr, ite}
 use mathlib.Core.Path.{_≡_, subst}
 use native.Mathlib.Nat.{eq-or-lt-of-le}
@@ -9,7 +8,8 @@ use native.Mathlib.Decide.{decLe}
 use native.Mathlib.Omega.{arith}
 use lib.Dec.{eqb, leb}
 use lib.ListN.{length}
-use Rattle.judging.specs.Periods.{at}
+use Rattle.judging.specs.declared.Columns.{Columns}
+use Rattle.judging.specs.Columns.{at}
 
 -- the sum of f over the positions below n
 unfoldable pub sumTo : ℕ → (ℕ → ℕ) → ℕ
@@ -29,12 +29,12 @@ unfoldable pub counted : ℕ → ℕ → ℕ → ℕ → ℕ
 counted queue t period own = cond (eqb queue 1) (ceil t period) (cond (eqb queue 2) (star t period own) 0)
 
 -- 01, "The tests", 13: what the tasks ask for up to t, for a DP2 task with its own period
-unfoldable pub demandDP2 : List ℕ → List ℕ → List ℕ → ℕ → ℕ → ℕ
-demandDP2 queues periods loads own t = sumTo (length queues) (λ j. at loads j * counted (at queues j) t (at periods j) own)
+unfoldable pub demandDP2 : Columns → ℕ → ℕ → ℕ
+demandDP2 c own t = sumTo (length (c .queues)) (λ j. at (c .loads) j * counted (at (c .queues) j) t (at (c .periods) j) own)
 
 -- 01, "The tests", 14: the loads of all tasks up to i in the table, each times ceil(t/period)
-unfoldable pub demandFP : List ℕ → List ℕ → ℕ → ℕ → ℕ
-demandFP periods loads i t = sumTo (suc i) (λ j. at loads j * ceil t (at periods j))
+unfoldable pub demandFP : Columns → ℕ → ℕ → ℕ
+demandFP c i t = sumTo (suc i) (λ j. at (c .loads) j * ceil t (at (c .periods) j))
 
 -- 01, "The tests", 13 and 14: there is a whole time t from 1 to the limit with the demand at most t
 pub record TimeUpTo (demand : ℕ → ℕ) (limit : ℕ) : Type 0 where
@@ -61,6 +61,20 @@ timeUpTo demand (suc limit) = later (timeUpTo demand limit) (decLe (demand (suc 
 unfoldable pub decided : {P : Type 0} → Dec P → Bool
 decided d = ite d true false
 
--- 01, "The tests", 13: whether there is such a time for a DP2 task with this period
-abbrev pub hasTime : List ℕ → List ℕ → List ℕ → ℕ → Bool
-hasTime queues periods loads own = decided (timeUpTo (demandDP2 queues periods loads own) own)
+-- whether there is a time for a DP2 task with this period
+abbrev pub hasTime : Columns → ℕ → Bool
+hasTime c own = decided (timeUpTo (demandDP2 c own) own)
+
+-- 01, "The tests", 13: for DP2 task i there is a time up to its period
+abbrev pub TimeDP2 : Columns → ℕ → Type 0
+TimeDP2 c i = TimeUpTo (demandDP2 c (at (c .periods) i)) (at (c .periods) i)
+
+abbrev pub timeDP2 : (c : Columns) (i : ℕ) → Dec (TimeDP2 c i)
+timeDP2 c i = timeUpTo (demandDP2 c (at (c .periods) i)) (at (c .periods) i)
+
+-- 01, "The tests", 14: for FP task i there is a time up to its period
+abbrev pub TimeFP : Columns → ℕ → Type 0
+TimeFP c i = TimeUpTo (demandFP c i) (at (c .periods) i)
+
+abbrev pub timeFP : (c : Columns) (i : ℕ) → Dec (TimeFP c i)
+timeFP c i = timeUpTo (demandFP c i) (at (c .periods) i)

@@ -1,4 +1,5 @@
--- What a reader must believe of judging: the shared period, the five tests, the first task named, the verdict.
+-- What a reader must believe of judging: the columns, the shared period, the five tests, the first task named, the verdict.
+pub mod Columns
 pub mod Periods
 pub mod Demands
 pub mod Verdicts

@@ -5,19 +5,10 @@ ghost use lib.ListN.{length, take};
 ghost use Rattle.table.specs.declared.Found.the-variants.{At, Nothing};
 ghost use Rattle.executive.specs.States.{tasksOf};
 ghost use Rattle.executive.specs.Sound.{Sound};
+ghost use Rattle.judging.specs.Columns.{columns, firstTasks, columnsOf};
 ghost use Rattle.judging.specs.Ranges.{InRange};
-ghost use Rattle.judging.specs.Verdicts.{
-  lateDP2,
-  lateFP,
-  firstLateDP2,
-  firstLateFP,
-  outcomeAt,
-  outcomeOf,
-  queuesOf,
-  periodsOf,
-  loadsOf,
-  verdictOf,
-};
+ghost use Rattle.judging.specs.Verdicts.{late, firstLate, outcomeAt, outcomeOf, verdictOf};
+use crate::Columns;
 use crate::Outcome;
 use crate::Shared;
 use crate::Verdict;
@@ -30,53 +21,31 @@ use table::Found;
 use table::Task;
 use table::numbers;
 
-// Whether the task at i is in DP2 and has no time.
-fn late_dp2(queues: &[u8], periods: &[u64], loads: &[u64], i: usize) -> bool
-    requires { ⌜ InRange (now queues) (now periods) (now loads) × (i < length (now queues)) ⌝ }
-    ensures { λ r. ⌜ r ≡ lateDP2 (now (queues .entry)) (now (periods .entry)) (now (loads .entry)) i ⌝ }
+// Whether the task at i is in the queue and has no time. For an FP task all tasks up to it count, each as a DP1 task
+// counts.
+fn late(queues: &[u8], periods: &[u64], loads: &[u64], queue: u8, i: usize) -> bool
+    requires { ⌜ InRange (columns (now queues) (now periods) (now loads)) × (i < length (now queues)) ⌝ }
+    ensures { λ r. ⌜ r ≡ late queue (columns (now (queues .entry)) (now (periods .entry)) (now (loads .entry))) i ⌝ }
 {
-    if queues[i] == 2 {
+    if queues[i] != queue {
+        return false;
+    }
+    if queue == 2 {
         return !search::has_time(queues, periods, loads, periods[i]);
     }
-    false
+    let whole = [1u8; 64];
+    let end = i + 1;
+    !search::has_time(&whole[..end], &periods[..end], &loads[..end], periods[i])
 }
 
-// Whether the task at i is in FP and has no time. All tasks up to it count, each as a DP1 task counts.
-fn late_fp(queues: &[u8], periods: &[u64], loads: &[u64], i: usize) -> bool
-    requires { ⌜ InRange (now queues) (now periods) (now loads) × (i < length (now queues)) ⌝ }
-    ensures { λ r. ⌜ r ≡ lateFP (now (queues .entry)) (now (periods .entry)) (now (loads .entry)) i ⌝ }
-{
-    if queues[i] == 3 {
-        let whole = [1u8; 64];
-        let end = i + 1;
-        return !search::has_time(&whole[..end], &periods[..end], &loads[..end], periods[i]);
-    }
-    false
-}
-
-// The first task in table order at which 13 arises.
-fn first_late_dp2(queues: &[u8], periods: &[u64], loads: &[u64]) -> Found
-    requires { ⌜ InRange (now queues) (now periods) (now loads) ⌝ }
-    ensures { λ r. ⌜ r ≡ firstLateDP2 (now (queues .entry)) (now (periods .entry)) (now (loads .entry)) ⌝ }
+// The first task of the queue in table order that has no time.
+fn first_late(queues: &[u8], periods: &[u64], loads: &[u64], queue: u8) -> Found
+    requires { ⌜ InRange (columns (now queues) (now periods) (now loads)) ⌝ }
+    ensures { λ r. ⌜ r ≡ firstLate queue (columns (now (queues .entry)) (now (periods .entry)) (now (loads .entry))) ⌝ }
 {
     let mut i: usize = 0;
     while i < queues.len() {
-        if late_dp2(queues, periods, loads, i) {
-            return Found::At(i);
-        }
-        i += 1;
-    }
-    Found::Nothing
-}
-
-// The first task in table order at which 14 arises.
-fn first_late_fp(queues: &[u8], periods: &[u64], loads: &[u64]) -> Found
-    requires { ⌜ InRange (now queues) (now periods) (now loads) ⌝ }
-    ensures { λ r. ⌜ r ≡ firstLateFP (now (queues .entry)) (now (periods .entry)) (now (loads .entry)) ⌝ }
-{
-    let mut i: usize = 0;
-    while i < queues.len() {
-        if late_fp(queues, periods, loads, i) {
+        if late(queues, periods, loads, queue, i) {
             return Found::At(i);
         }
         i += 1;
@@ -105,8 +74,8 @@ fn named(number: u8, i: usize) -> Outcome
 
 // The tests in their order: 7, 10, 11, 12, 13, 14.
 fn outcome(queues: &[u8], periods: &[u64], loads: &[u64]) -> Outcome
-    requires { ⌜ InRange (now queues) (now periods) (now loads) ⌝ }
-    ensures { λ r. ⌜ r ≡ outcomeOf (now (queues .entry)) (now (periods .entry)) (now (loads .entry)) ⌝ }
+    requires { ⌜ InRange (columns (now queues) (now periods) (now loads)) ⌝ }
+    ensures { λ r. ⌜ r ≡ outcomeOf (columns (now (queues .entry)) (now (periods .entry)) (now (loads .entry))) ⌝ }
 {
     if queues.len() == 0 {
         return unnamed(numbers::NO_TASK);
@@ -121,11 +90,11 @@ fn outcome(queues: &[u8], periods: &[u64], loads: &[u64]) -> Outcome
             if sums::over_full(queues, periods, loads, 2, h) {
                 return unnamed(numbers::DP_OVER_FULL);
             }
-            let dp2 = first_late_dp2(queues, periods, loads);
+            let dp2 = first_late(queues, periods, loads, 2);
             if let Found::At(i) = dp2 {
                 return named(numbers::DP2_NO_TIME, i);
             }
-            let fp = first_late_fp(queues, periods, loads);
+            let fp = first_late(queues, periods, loads, 3);
             match fp {
                 Found::At(i) => named(numbers::FP_NO_TIME, i),
                 Found::Nothing => unnamed(numbers::DONE),
@@ -134,49 +103,28 @@ fn outcome(queues: &[u8], periods: &[u64], loads: &[u64]) -> Outcome
     }
 }
 
-// The queue of each task, in table order.
-fn queues_of(tasks: [Task; 64], n: usize) -> [u8; 64]
+// The columns of the first n tasks.
+fn columns_of(tasks: [Task; 64], n: usize, board: Board) -> Columns
     requires { ⌜ n ≤ 64 ⌝ }
-    ensures { λ r. ⌜ take n r ≡ queuesOf (take n tasks) ⌝ }
-{
-    let mut queues = [0u8; 64];
-    let mut i: usize = 0;
-    while i < n {
-        queues[i] = tasks[i].queue;
-        i += 1;
-    }
-    queues
-}
-
-// The period of each task, in table order.
-fn periods_of(tasks: [Task; 64], n: usize) -> [u64; 64]
-    requires { ⌜ n ≤ 64 ⌝ }
-    ensures { λ r. ⌜ take n r ≡ periodsOf (take n tasks) ⌝ }
-{
-    let mut periods = [0u64; 64];
-    let mut i: usize = 0;
-    while i < n {
-        let t = tasks[i];
-        periods[i] = t.period as u64;
-        i += 1;
-    }
-    periods
-}
-
-// The load of each task, in table order.
-fn loads_of(tasks: [Task; 64], n: usize, board: Board) -> [u64; 64]
-    requires { ⌜ n ≤ 64 ⌝ }
-    ensures { λ r. ⌜ take n r ≡ loadsOf (take n tasks) board ⌝ }
+    ensures { λ r. ⌜ firstTasks n r ≡ columnsOf (take n tasks) board ⌝ }
 {
     let counts = Counts::of(tasks, n, board);
+    let mut queues = [0u8; 64];
+    let mut periods = [0u64; 64];
     let mut loads = [0u64; 64];
     let mut i: usize = 0;
     while i < n {
         let t = tasks[i];
+        queues[i] = t.queue;
+        periods[i] = t.period as u64;
         loads[i] = counts.load(t);
         i += 1;
     }
-    loads
+    Columns {
+        queues,
+        periods,
+        loads,
+    }
 }
 
 // Judges a state: the number of the first test that it fails, and the task at which that arises.
@@ -186,9 +134,10 @@ pub fn judge(state: State) -> Verdict
 {
     let n = state.n;
     let tasks = state.tasks;
-    let queues = queues_of(tasks, n);
-    let periods = periods_of(tasks, n);
-    let loads = loads_of(tasks, n, state.board);
+    let columns = columns_of(tasks, n, state.board);
+    let queues = columns.queues;
+    let periods = columns.periods;
+    let loads = columns.loads;
     let found = outcome(&queues[..n], &periods[..n], &loads[..n]);
     let place = found.place;
     match place {

@@ -1,7 +1,8 @@
 // Tests 13 and 14: the search for a time.
 ghost use mathlib.Core.Path.{_≡_};
 ghost use Prim.Native.Nat.{_≤_, _<_};
-ghost use Rattle.judging.specs.Periods.{at};
+ghost use lib.ListN.{length};
+ghost use Rattle.judging.specs.Columns.{columns};
 ghost use Rattle.judging.specs.Demands.{counted, demandDP2, hasTime};
 ghost use Rattle.judging.specs.Ranges.{PeriodsInRange, InRange};
 ghost use Rattle.judging.specs.Search.{NextTime};
@@ -26,8 +27,8 @@ fn count(queue: u8, t: u64, period: u64, own: u64) -> u64
 
 // What the tasks ask for up to t.
 fn demand(queues: &[u8], periods: &[u64], loads: &[u64], own: u64, t: u64) -> u64
-    requires { ⌜ InRange (now queues) (now periods) (now loads) × (t ≤ 100000000) ⌝ }
-    ensures { λ r. ⌜ r ≡ demandDP2 (now (queues .entry)) (now (periods .entry)) (now (loads .entry)) own t ⌝ }
+    requires { ⌜ InRange (columns (now queues) (now periods) (now loads)) × (t ≤ 100000000) ⌝ }
+    ensures { λ r. ⌜ r ≡ demandDP2 (columns (now (queues .entry)) (now (periods .entry)) (now (loads .entry))) own t ⌝ }
 {
     let mut sum: u64 = 0;
     let mut i: usize = 0;
@@ -40,7 +41,7 @@ fn demand(queues: &[u8], periods: &[u64], loads: &[u64], own: u64, t: u64) -> u6
 
 // The first multiple of a period after t, or the limit where that comes before.
 fn next(periods: &[u64], t: u64, limit: u64) -> u64
-    requires { ⌜ PeriodsInRange (now periods) × (t < limit) × (limit ≤ 100000000) ⌝ }
+    requires { ⌜ PeriodsInRange (length (now periods)) (now periods) × (t < limit) × (limit ≤ 100000000) ⌝ }
     ensures { λ r. ⌜ NextTime (now (periods .entry)) t limit r ⌝ }
 {
     let mut best = limit;
@@ -59,8 +60,8 @@ fn next(periods: &[u64], t: u64, limit: u64) -> u64
 // Whether there is a whole t from 1 to the limit with the demand at most t. It tries each multiple of each period, and
 // the limit, in rising order: from one to the next every count stands still, so that only the later end matters.
 pub fn has_time(queues: &[u8], periods: &[u64], loads: &[u64], limit: u64) -> bool
-    requires { ⌜ InRange (now queues) (now periods) (now loads) × (limit ≤ 100000000) ⌝ }
-    ensures { λ r. ⌜ r ≡ hasTime (now (queues .entry)) (now (periods .entry)) (now (loads .entry)) limit ⌝ }
+    requires { ⌜ InRange (columns (now queues) (now periods) (now loads)) × (limit ≤ 100000000) ⌝ }
+    ensures { λ r. ⌜ r ≡ hasTime (columns (now (queues .entry)) (now (periods .entry)) (now (loads .entry))) limit ⌝ }
 {
     let mut t: u64 = 0;
     while t < limit {

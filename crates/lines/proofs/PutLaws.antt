@@ -1,10 +1,10 @@
 -- Putting one piece behind another is putting both; a number has as many digits as it has.
 -- Assumes nothing.
 use Prim.Native.Nat.{ℕ, zero, suc, _+_, _*_, _/_, _%_, _^_, _≤_, _<_}
-use mathlib.Core.Path.{_≡_, refl, sym, ap, subst, _∙_}
-use mathlib.Core.Bool.{Bool, true, false, cond}
+use mathlib.Core.Path.{_≡_, refl, sym, ap, _∙_}
+use mathlib.Core.Bool.{Bool, true, false}
 use mathlib.Core.List.{List, [], _∷_, _++_, append-assoc, append-nil}
-use native.Mathlib.Nat.{add-zero, zero-add, add-suc, suc-add, add-assoc, mod-eq-of-lt}
+use native.Mathlib.Nat.{add-zero, add-suc, suc-add, add-assoc, mod-eq-of-lt}
 use native.Mathlib.Numerals.{add-one}
 use native.Mathlib.Omega.{arith}
 use lib.Dec.{ltb}
@@ -12,7 +12,7 @@ use lib.ListN.{length, getD, take, set, length-append}
 use lib.Pow.{pow-add}
 use lib.Seq.{sets, take-suc, length-sets}
 use borrow.Author.Tests.{ltb-true, ltb-false, lt-ltb, le-ltb}
-use Rattle.lines.specs.Lines.{digit, decimalIn, decimal, numbered, lineOf, Put}
+use Rattle.lines.specs.Lines.{digit, decimalIn, decimal, numbered, Put}
 
 -- one run of stores behind another
 pub sets-append : (l : List ℕ) (i : ℕ) (xs ys : List ℕ) → sets (sets l i xs) (i + length xs) ys ≡ sets l i (xs ++ ys)
@@ -126,17 +126,15 @@ numbered-more l i h =
     ap (λ (n : ℕ). numbered (take n l)) (add-one i) ∙ (ap numbered (take-suc l i 0 h) ∙ numbered-append (take i l) (getD l i 0))
 
 -- a number below ten is put as its digit
-pub put-digit : (l : List ℕ) (at n : ℕ) → n < 10 → Put l at (decimal n) (set l at (48 + n % 10)) (at + 1)
-unfolding digit
-put-digit l at n h =
-    let e : decimal n ≡ (48 + n % 10) ∷ [] = decimal-few n h ∙ ap (λ (k : ℕ). (48 + k) ∷ []) (sym (mod-eq-of-lt h)) in
-    rw e (put-one l at (48 + n % 10))
+pub put-few : {a b : List ℕ} {at end : ℕ} (n : ℕ) → n < 10 → Put a at (digit (n % 10) ∷ []) b end → Put a at (decimal n) b end
+put-few n h p =
+    let e : decimal n ≡ digit (n % 10) ∷ [] = decimal-few n h ∙ ap (λ (k : ℕ). digit k ∷ []) (sym (mod-eq-of-lt h)) in
+    rw e p
 
 -- any other number is put as a tenth of it, and its last digit
-pub put-last : (a b : List ℕ) (at next n : ℕ) → 10 ≤ n → n < 2 ^ 64 → Put a at (decimal (n / 10)) b next
-    → Put a at (decimal n) (set b next (48 + n % 10)) (next + 1)
-unfolding digit
-put-last a b at next n h k p = rw (decimal-many n h k) (put-more (decimal (n / 10)) ((48 + n % 10) ∷ []) p (put-one b next (48 + n % 10)))
+pub put-many : {a b c : List ℕ} {at next end : ℕ} (n : ℕ) → 10 ≤ n → n < 2 ^ 64 → Put a at (decimal (n / 10)) b next
+    → Put b next (digit (n % 10) ∷ []) c end → Put a at (decimal n) c end
+put-many n h k p q = rw (decimal-many n h k) (put-more (decimal (n / 10)) (digit (n % 10) ∷ []) p q)
 
 -- putting keeps the buffer's length
 pub put-length : {a b : List ℕ} {at end : ℕ} {bytes : List ℕ} → Put a at bytes b end → length b ≡ length a

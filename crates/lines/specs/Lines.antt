@@ -8,7 +8,7 @@ use lib.ListN.{length}
 use lib.Seq.{sets}
 
 -- the digit of a number below ten: 48 is `0`
-unfoldable pub digit : ℕ → ℕ
+abbrev pub digit : ℕ → ℕ
 digit n = 48 + n
 
 -- the decimal digits of a number, so many at the most

@@ -1,7 +1,17 @@
 // The lines that the checking program prints, put into a lent buffer.
-ghost use Prim.Native.Nat.{_+_, _*_, _≤_};
+ghost use Prim.Native.Nat.{_+_, _*_, _%_, _≤_, _<_};
+ghost use mathlib.Core.List.{[], _∷_};
 ghost use lib.ListN.{length};
-ghost use Rattle.lines.specs.Lines.{Put, decimal, numbered, lineOf};
+ghost use Rattle.lines.specs.Lines.{Put, digit, decimal, numbered, lineOf};
+
+// Puts the last digit of a number at a place, and says where it ends.
+fn put_digit(out: &mut [u8], at: usize, value: u64) -> usize
+    requires { ⌜ at < length (now out) ⌝ }
+    ensures { λ r. ⌜ Put (now (out .entry)) at (digit (value % 10) ∷ []) (now (out .exit)) r ⌝ }
+{
+    out[at] = 48 + (value % 10) as u8;
+    at + 1
+}
 
 // Puts the decimal digits of a number at a place, and says where they end.
 pub fn put_decimal(out: &mut [u8], at: usize, value: u64) -> usize
@@ -9,13 +19,10 @@ pub fn put_decimal(out: &mut [u8], at: usize, value: u64) -> usize
     ensures { λ r. ⌜ Put (now (out .entry)) at (decimal value) (now (out .exit)) r ⌝ }
 {
     if value < 10 {
-        out[at] = 48 + (value % 10) as u8;
-        at + 1
-    } else {
-        let next = put_decimal(out, at, value / 10);
-        out[next] = 48 + (value % 10) as u8;
-        next + 1
+        return put_digit(out, at, value);
     }
+    let next = put_decimal(out, at, value / 10);
+    put_digit(out, next, value)
 }
 
 // Puts a word at a place, and says where it ends.

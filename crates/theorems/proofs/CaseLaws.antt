@@ -6,7 +6,7 @@ use mathlib.Core.Bool.{Bool, true, false, _&&_}
 use mathlib.Core.List.{List, [], _∷_, map}
 use native.Mathlib.Omega.{arith}
 use lib.Dec.{eqb, ltb}
-use lib.ListN.{take, drop}
+use lib.ListN.{length, take, drop}
 use borrow.Author.Tests.{eqb-true, ltb-true}
 use Rattle.table.specs.declared.Board.{Board}
 use Rattle.table.specs.declared.Task.{Task}
@@ -17,11 +17,7 @@ use Rattle.table.proofs.SumLaws.{both-left, both-right, every-at}
 use Rattle.charges.specs.Charges.{
   tasksIn,
   countsOf,
-  choiceDP,
-  choiceFP,
-  sumDP1,
-  sumDP2,
-  sumFP,
+  choiceUnblocked,
   sumBy,
   chargeBy,
   loadBy,
@@ -29,12 +25,28 @@ use Rattle.charges.specs.Charges.{
   loadOf,
 }
 use Rattle.judging.specs.declared.Verdict.{Verdict}
-use Rattle.judging.specs.Periods.{at, plus, fractions, aboveOne, overFull}
+use Rattle.judging.specs.Columns.{at, columnsOf}
+use Rattle.judging.specs.Periods.{plus, fractions, aboveOne, overFull}
 use Rattle.judging.specs.Demands.{sumTo, ceil, star, counted, demandDP2, demandFP}
-use Rattle.judging.specs.Verdicts.{orElse, firstBelow, found, queuesOf, periodsOf, loadsOf, nameOf, named, verdictOf}
+use Rattle.judging.specs.Verdicts.{orElse, firstBelow, found, nameOf, named, verdictOf}
 use Rattle.judging.proofs.ColumnLaws.{queues-length, periods-length}
-use Rattle.judging.proofs.FixedLaws.{forced, forcedList, forced-list, gcdForced, lcmForced, longFrom, fixedFrom, fixedUpTo, fixedDP2, fixedFP, fixedOutcome, fixed-outcome}
-use Rattle.theorems.specs.Cases.{Case, judged, played, undone, Holds, cases, All}
+use Rattle.judging.proofs.FixedLaws.{
+  forced,
+  forcedList,
+  forcedColumns,
+  forced-columns,
+  gcdForced,
+  lcmForced,
+  sharedForced,
+  shared-forced,
+  longFrom,
+  fixedFrom,
+  fixedUpTo,
+  fixedLate,
+  fixedOutcome,
+  fixed-outcome,
+}
+use Rattle.theorems.specs.Cases.{Case, judged, shared, played, undone, Judged, Holds, cases, All}
 use Rattle.theorems.proofs.PlayedCases.{p10-p12}
 
 -- two lists of numbers are equal
@@ -56,39 +68,38 @@ same-true (x ∷ xs) (y ∷ ys) h =
 
 -- the verdict, with the times decided in few steps
 fixedVerdict : List Task → Board → Verdict
-fixedVerdict tasks board =
-    forcedList (queuesOf tasks)
-    (λ queues.
-    forcedList (periodsOf tasks)
-    (λ periods. forcedList (loadsOf tasks board) (λ loads. named tasks (fixedOutcome queues periods loads))))
+fixedVerdict tasks board = forcedColumns (columnsOf tasks board) (λ c. named tasks (fixedOutcome c))
+
+fixed-verdict : (tasks : List Task) (board : Board) → every (λ p. ltb 0 p) ((columnsOf tasks board) .periods) ≡ true
+    → fixedVerdict tasks board ≡ verdictOf tasks board
+unfolding fixedVerdict verdictOf
+fixed-verdict tasks board h =
+    let c = columnsOf tasks board in
+    forced-columns c (λ c. named tasks (fixedOutcome c))
+    ∙ ap (named tasks)
+    (fixed-outcome c
+    (λ j k.
+    ltb-true 0 (at (c .periods) j) (every-at (λ p. ltb 0 p) (c .periods) h j (omega (arith, queues-length tasks board, periods-length tasks board)) 0)))
 
 -- a row with a verdict is right
-right : Case → Bool
-right (judged tasks board charges number task) =
-    every (λ p. ltb 0 p) (periodsOf tasks)
+rightly : List Task → Board → List ℕ → ℕ → ℕ → Bool
+rightly tasks board charges number task =
+    every (λ p. ltb 0 p) ((columnsOf tasks board) .periods)
     && same (map (chargeOf tasks board) tasks) charges
     && (eqb (fixedVerdict tasks board .number) number && eqb (fixedVerdict tasks board .task) task)
+
+right : Case → Bool
+right (judged tasks board charges number task) = rightly tasks board charges number task
+right (shared tasks board charges number task period) =
+    rightly tasks board charges number task && eqb (sharedForced (columnsOf tasks board) (length tasks)) period
 right (played table steps) = false
 right (undone table steps others) = false
 
-fixed-verdict : (tasks : List Task) (board : Board) → every (λ p. ltb 0 p) (periodsOf tasks) ≡ true → fixedVerdict tasks board ≡ verdictOf tasks board
-unfolding fixedVerdict verdictOf
-fixed-verdict tasks board h =
-    forced-list (queuesOf tasks)
-    (λ queues. forcedList (periodsOf tasks) (λ periods. forcedList (loadsOf tasks board) (λ loads. named tasks (fixedOutcome queues periods loads))))
-    ∙ forced-list (periodsOf tasks)
-    (λ periods. forcedList (loadsOf tasks board) (λ loads. named tasks (fixedOutcome (queuesOf tasks) periods loads)))
-    ∙ forced-list (loadsOf tasks board) (λ loads. named tasks (fixedOutcome (queuesOf tasks) (periodsOf tasks) loads))
-    ∙ ap (named tasks)
-    (fixed-outcome (queuesOf tasks) (periodsOf tasks) (loadsOf tasks board)
-    (λ j k.
-    ltb-true 0 (at (periodsOf tasks) j)
-    (every-at (λ p. ltb 0 p) (periodsOf tasks) h j (omega (arith, queues-length tasks, periods-length tasks)) 0)))
-
-right-holds : (c : Case) → right c ≡ true → Holds c
-unfolding right
-right-holds (judged tasks board charges number task) h =
-    let p = every (λ p. ltb 0 p) (periodsOf tasks) in
+rightly-judged : (tasks : List Task) (board : Board) (charges : List ℕ) (number task : ℕ) → rightly tasks board charges number task ≡ true
+    → Judged tasks board charges number task
+unfolding rightly
+rightly-judged tasks board charges number task h =
+    let p = every (λ p. ltb 0 p) ((columnsOf tasks board) .periods) in
     let c = same (map (chargeOf tasks board) tasks) charges in
     let v = fixedVerdict tasks board in
     let n = eqb (v .number) number in
@@ -99,6 +110,17 @@ right-holds (judged tasks board charges number task) h =
     let task-is : v .task ≡ task = eqb-true (v .task) task (both-right n t nt) in (
       same-true (map (chargeOf tasks board) tasks) charges (both-right p c pc),
       sym (fixed-verdict tasks board (both-left p c pc)) ∙ (λ i. record { number = number-is i; task = task-is i }),
+    )
+
+right-holds : (c : Case) → right c ≡ true → Holds c
+unfolding right
+right-holds (judged tasks board charges number task) h = rightly-judged tasks board charges number task h
+right-holds (shared tasks board charges number task period) h =
+    let j = rightly tasks board charges number task in
+    let c = columnsOf tasks board in
+    let s = eqb (sharedForced c (length tasks)) period in (
+      rightly-judged tasks board charges number task (both-left j s h),
+      sym (shared-forced c (length tasks)) ∙ eqb-true (sharedForced c (length tasks)) period (both-right j s h),
     )
 right-holds (played table steps) h = let z : _≡_ {A = ℕ} 0 1 = cc in absurd (omega arith)
 right-holds (undone table steps others) h = let z : _≡_ {A = ℕ} 0 1 = cc in absurd (omega arith)
@@ -115,7 +137,7 @@ all-parts (suc n) [] a b = tt
 all-parts (suc n) (c ∷ rest) a b = (a .0, all-parts n rest (a .1) b)
 
 p1-p9 : All (take 8 cases)
-unfolding cases right same every fixedVerdict forced forcedList gcdForced lcmForced longFrom fixedFrom fixedUpTo fixedDP2 fixedFP fixedOutcome tasksIn countsOf choiceDP choiceFP sumDP1 sumDP2 sumFP sumBy chargeBy loadBy chargeOf loadOf plus fractions aboveOne overFull sumTo ceil star counted demandDP2 demandFP orElse firstBelow found queuesOf periodsOf loadsOf nameOf named builtIn firstOf sumOf countOf
+unfolding cases right rightly same every fixedVerdict forced forcedList forcedColumns gcdForced lcmForced sharedForced longFrom fixedFrom fixedUpTo fixedLate fixedOutcome tasksIn countsOf choiceUnblocked sumBy chargeBy loadBy chargeOf loadOf plus fractions aboveOne overFull sumTo ceil star counted demandDP2 demandFP orElse firstBelow found columnsOf nameOf named builtIn firstOf sumOf countOf
 p1-p9 = all-right (take 8 cases) refl
 
 -- P1 to P12

@@ -2,11 +2,14 @@
 -- Assumes nothing.
 use Prim.Native.Nat.{ℕ}
 use mathlib.Core.Path.{_≡_, refl, sym, _∙_}
-use mathlib.Core.Logic.{_↔_, _⊎_, inl, inr}
-use mathlib.Core.Bool.{Bool, true, false, _||_}
+use mathlib.Core.Logic.{_↔_, _≢_, _⊎_, inl, inr}
+use mathlib.Core.Bool.{Bool, true, false, _&&_, _||_, and-false}
 use mathlib.Core.List.{List, [], _∷_}
 use native.Mathlib.Omega.{arith}
+use lib.Dec.{eqb}
+use borrow.Author.Tests.{eq-eqb}
 use Rattle.table.specs.Refusals.{firstOf}
+use Rattle.table.specs.Sums.{any}
 use Rattle.table.proofs.RefusalLaws.{firstOf-here, firstOf-past, firstOf-none}
 use Rattle.theorems.specs.When.{FirstThat}
 
@@ -40,3 +43,10 @@ first-that (test-says {k = j} {b = b} {P = P} {tests = tests} {conditions = cond
 pub either : (a b : Bool) → ((a || b) ≡ true) ↔ ((a ≡ true) ⊎ (b ≡ true))
 either true b = (λ h. inl refl, λ w. refl)
 either false b = (λ h. inr h, λ w. elim w [ inl v ↦ let z : _≡_ {A = ℕ} 0 1 = cc in absurd (omega arith) | inr v ↦ v ])
+
+-- a number other than 0 is that of a test that holds
+pub picked : (k : ℕ) (tests : List (ℕ × Bool)) → firstOf tests ≡ k → k ≢ 0 → any (λ t. eqb (t .0) k && t .1) tests ≡ true
+unfolding firstOf any
+picked k [] h ne = absurd (ne (sym h))
+picked k ((j, true) ∷ rest) h ne = rw (eq-eqb j k h)
+picked k ((j, false) ∷ rest) h ne = rw (and-false (eqb j k)) (picked k rest h ne)

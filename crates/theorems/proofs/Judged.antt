@@ -1,42 +1,43 @@
--- Demand 1, "exactly when", for judging: the number is that of the first of 01's tests that fails.
+-- Demand 1, "exactly when", for judging: the number is that of the first of 01's tests that fails, and the task that is named is the first at which it does.
 -- Assumes nothing.
 use Prim.Native.Nat.{ℕ, suc, _<_}
 use mathlib.Core.Path.{_≡_, refl, sym, ap, _∙_}
-use mathlib.Core.Logic.{_↔_}
-use mathlib.Core.Bool.{Bool, true, false, not, _&&_}
+use mathlib.Core.Logic.{_↔_, _≢_}
+use mathlib.Core.Bool.{Bool, true, false, not, _&&_, _||_}
 use mathlib.Core.List.{List}
 use native.Mathlib.Omega.{arith}
-use lib.Dec.{eqb, ltb}
+use lib.Dec.{eqb}
 use lib.ListN.{length}
-use borrow.Author.Tests.{eqb-true, eq-eqb, ltb-true, lt-ltb, not-true}
+use borrow.Author.Tests.{eqb-true, eqb-false, eq-eqb, ne-eqb, ltb-true, lt-ltb}
 use Rattle.table.specs.declared.Board.{Board}
 use Rattle.table.specs.declared.Task.{Task}
 use Rattle.table.specs.declared.Found.{Found}
 use Rattle.table.specs.declared.Found.the-variants.{At, Nothing}
+use Rattle.table.specs.Sums.{any}
 use Rattle.table.proofs.SumLaws.{both, both-left, both-right}
-use Rattle.judging.specs.Periods.{at, sharedPeriod, tooLong, fractions, aboveOne, overFull}
-use Rattle.judging.specs.Demands.{demandDP2, demandFP, TimeUpTo, timeUpTo, decided}
+use Rattle.judging.specs.declared.Columns.{Columns}
+use Rattle.judging.specs.Columns.{at, columnsOf}
+use Rattle.judging.specs.Periods.{sharedPeriod, tooLong, fractions, aboveOne, overFull}
+use Rattle.judging.specs.Demands.{timeDP2, timeFP, decided}
 use Rattle.judging.specs.Verdicts.{
   firstBelow,
   found,
   firstLong,
-  lateDP2,
-  lateFP,
-  firstLateDP2,
-  firstLateFP,
+  late,
+  firstLate,
   numberOf,
+  placeOf,
   outcomeOf,
+  nameOf,
   named,
-  queuesOf,
-  periodsOf,
-  loadsOf,
   verdictOf,
 }
-use Rattle.judging.proofs.DemandLaws.{no-decided}
+use Rattle.judging.proofs.ColumnLaws.{queues-length}
 use Rattle.judging.proofs.FirstLaws as First
+use Rattle.theorems.specs.Demands.{JudgeWhen, JudgeNames}
 use Rattle.theorems.specs.When.{FirstThat}
-use Rattle.theorems.specs.Verdicts.{columnConditions, judgeConditions}
-use Rattle.theorems.proofs.FirstLaws.{nothing-more, test-says, first-that}
+use Rattle.theorems.specs.Verdicts.{Long, Over, LateDP2, LateFP, columnConditions, NamesFirst}
+use Rattle.theorems.proofs.FirstLaws.{nothing-more, test-says, first-that, picked}
 
 -- something is found exactly if the test holds somewhere
 found-says : (n : ℕ) (test : ℕ → Bool) → (found (firstBelow n test) ≡ true) ↔ ((i : ℕ) × (i < n) × (test i ≡ true))
@@ -68,56 +69,79 @@ late-says queue k d = (
   λ w. both (eqb queue k) (not (decided d)) (eq-eqb queue k (w .0)) (no-time d .1 (w .1)),
 )
 
-module _ (queues periods loads : List ℕ) where
-  full-says : (last : ℕ)
-      → (overFull queues periods loads last ≡ true) ↔ ((fractions queues periods loads last (length queues)) .1 < (fractions queues periods loads last (length queues)) .0)
+module _ (c : Columns) where
+  full-says : (last : ℕ) → (overFull c last ≡ true) ↔ Over c last
   unfolding overFull aboveOne
-  full-says last =
-      let f = fractions queues periods loads last (length queues) in
-      (ltb-true (f .1) (f .0), lt-ltb (f .1) (f .0))
+  full-says last = let f = fractions c last (length (c .queues)) in (ltb-true (f .1) (f .0), lt-ltb (f .1) (f .0))
 
-  long-says : (i : ℕ) → (tooLong queues periods i ≡ true) ↔ (1000000000000 < sharedPeriod queues periods (suc i))
+  -- each test of a task in words
+  long-says : (i : ℕ) → (tooLong c i ≡ true) ↔ Long c i
   unfolding tooLong
-  long-says i = (ltb-true 1000000000000 (sharedPeriod queues periods (suc i)), lt-ltb 1000000000000 (sharedPeriod queues periods (suc i)))
+  long-says i = (ltb-true 1000000000000 (sharedPeriod c (suc i)), lt-ltb 1000000000000 (sharedPeriod c (suc i)))
 
-  late-dp2-says : (i : ℕ)
-      → (lateDP2 queues periods loads i ≡ true) ↔ ((at queues i ≡ 2) × (TimeUpTo (demandDP2 queues periods loads (at periods i)) (at periods i) → ⊥))
-  unfolding lateDP2
-  late-dp2-says i = late-says (at queues i) 2 (timeUpTo (demandDP2 queues periods loads (at periods i)) (at periods i))
+  dp2-says : (i : ℕ) → (late 2 c i ≡ true) ↔ LateDP2 c i
+  unfolding late
+  dp2-says i = late-says (at (c .queues) i) 2 (timeDP2 c i)
 
-  late-fp-says : (i : ℕ) → (lateFP queues periods loads i ≡ true) ↔ ((at queues i ≡ 3) × (TimeUpTo (demandFP periods loads i) (at periods i) → ⊥))
-  unfolding lateFP
-  late-fp-says i = late-says (at queues i) 3 (timeUpTo (demandFP periods loads i) (at periods i))
+  fp-says : (i : ℕ) → (late 3 c i ≡ true) ↔ LateFP c i
+  unfolding late
+  fp-says i = late-says (at (c .queues) i) 3 (timeFP c i)
 
-  flat-dp2 : (found (firstLateDP2 queues periods loads) ≡ true)
-      ↔ ((i : ℕ) × (i < length queues) × (at queues i ≡ 2) × (TimeUpTo (demandDP2 queues periods loads (at periods i)) (at periods i) → ⊥))
-  unfolding firstLateDP2
-  flat-dp2 =
-      let f = found-is (length queues) (lateDP2 queues periods loads) _ late-dp2-says in
-      (λ h. let w = f .0 h in (w .0, w .1, w .2 .0, w .2 .1), λ w. f .1 (w .0, w .1, (w .2, w .3)))
-
-  flat-fp : (found (firstLateFP queues periods loads) ≡ true)
-      ↔ ((i : ℕ) × (i < length queues) × (at queues i ≡ 3) × (TimeUpTo (demandFP periods loads i) (at periods i) → ⊥))
-  unfolding firstLateFP
-  flat-fp =
-      let f = found-is (length queues) (lateFP queues periods loads) _ late-fp-says in
-      (λ h. let w = f .0 h in (w .0, w .1, w .2 .0, w .2 .1), λ w. f .1 (w .0, w .1, (w .2, w .3)))
-
-  flat-long : (found (firstLong queues periods) ≡ true) ↔ ((i : ℕ) × (i < length queues) × (1000000000000 < sharedPeriod queues periods (suc i)))
-  unfolding firstLong
-  flat-long = found-is (length queues) (tooLong queues periods) _ long-says
-
-  number-when : (k : ℕ) → (numberOf queues periods loads ≡ k) ↔ FirstThat (columnConditions queues periods loads) k
-  unfolding numberOf
+  number-when : (k : ℕ) → (numberOf c ≡ k) ↔ FirstThat (columnConditions c) k
+  unfolding numberOf firstLong firstLate
   number-when k =
+      let n = length (c .queues) in
       first-that
-      (test-says (eqb-true (length queues) 0, eq-eqb (length queues) 0)
-      (λ a. test-says flat-long
-      (λ b. test-says (full-says 1)
-      (λ c. test-says (full-says 2)
-      (λ d. test-says flat-dp2
-      (λ e. test-says flat-fp (λ f. nothing-more))))))) k
+      (test-says (eqb-true n 0, eq-eqb n 0)
+      (λ p7. test-says (found-is n (tooLong c) (Long c) long-says)
+      (λ p10. test-says (full-says 1)
+      (λ p11. test-says (full-says 2)
+      (λ p12. test-says (found-is n (late 2 c) (LateDP2 c) dp2-says)
+      (λ p13. test-says (found-is n (late 3 c) (LateFP c) fp-says) (λ p14. nothing-more))))))) k
 
-pub judge-when : (tasks : List Task) (board : Board) (k : ℕ) → ((verdictOf tasks board) .number ≡ k) ↔ FirstThat (judgeConditions tasks board) k
+pub judge-when : JudgeWhen
 unfolding verdictOf named outcomeOf
-judge-when tasks board k = number-when (queuesOf tasks) (periodsOf tasks) (loadsOf tasks board) k
+judge-when tasks board k = number-when (columnsOf tasks board) k
+
+module _ (tasks : List Task) (board : Board) where
+  abbrev c : Columns
+  c = columnsOf tasks board
+
+  -- a number whose test looks for a task names the first at which that test holds
+  names : (number : ℕ) (test : ℕ → Bool) (P : ℕ → Type 0) → ((i : ℕ) → (test i ≡ true) ↔ P i)
+      → placeOf c number ≡ firstBelow (length (c .queues)) test → found (firstBelow (length (c .queues)) test) ≡ true
+      → numberOf c ≡ number → NamesFirst tasks P ((verdictOf tasks board) .task)
+  unfolding verdictOf named outcomeOf nameOf found
+  names number test P says place some e = go (firstBelow (length (c .queues)) test) refl some
+    where
+      go : (f : Found) → firstBelow (length (c .queues)) test ≡ f → found f ≡ true → NamesFirst tasks P (nameOf tasks (placeOf c (numberOf c)))
+      go (At i) k h =
+          let r = First.first-found test (length (c .queues)) i k in
+          record {
+            position = i;
+            inside = omega (arith, r .0, queues-length tasks board);
+            arises = says i .0 (r .1);
+            noneBefore = λ j l p. let yes = says j .1 p in let none = r .2 j l in let z : _≡_ {A = ℕ} 0 1 = cc in omega arith;
+            named = ap (λ (n : ℕ). nameOf tasks (placeOf c n)) e ∙ ap (nameOf tasks) (place ∙ k);
+          }
+      go Nothing k h = let z : _≡_ {A = ℕ} 0 1 = cc in absurd (omega arith)
+
+  -- and any other number names none
+  names-none : numberOf c ≢ 10 → numberOf c ≢ 13 → numberOf c ≢ 14 → (verdictOf tasks board) .task ≡ 0
+  unfolding verdictOf named outcomeOf placeOf nameOf
+  names-none a b d = rw (ne-eqb (numberOf c) 10 a, ne-eqb (numberOf c) 13 b, ne-eqb (numberOf c) 14 d)
+
+-- the one test with its number holds
+alone : (b : Bool) → (b || false) ≡ true → b ≡ true
+alone true h = refl
+alone false h = h
+
+pub judge-names : JudgeNames
+unfolding verdictOf named outcomeOf numberOf placeOf firstLong firstLate any
+judge-names tasks board =
+    let c = columnsOf tasks board in (
+      λ e. names tasks board 10 (tooLong c) (Long c) (long-says c) refl (alone _ (picked 10 _ e (eqb-false 10 0 refl))) e,
+      λ e. names tasks board 13 (late 2 c) (LateDP2 c) (dp2-says c) refl (alone _ (picked 13 _ e (eqb-false 13 0 refl))) e,
+      λ e. names tasks board 14 (late 3 c) (LateFP c) (fp-says c) refl (alone _ (picked 14 _ e (eqb-false 14 0 refl))) e,
+      names-none tasks board,
+    )

@@ -125,6 +125,9 @@ load-when = LoadedWhen.load-when
 pub judge-when : Demands.JudgeWhen
 judge-when = Judged.judge-when
 
+pub judge-names : Demands.JudgeNames
+judge-names = Judged.judge-names
+
 pub refused-load : Demands.RefusedLoad
 refused-load = Trips.refused-empty
 

@@ -101,7 +101,8 @@ judge-passes h = h (two 1000) noFigures (ap (λ (v : Verdict). v .number) p1-pas
 
 pub verdicts-differ : OneVerdict verdictOf → ⊥
 verdicts-differ h =
-    let e : _≡_ {A = ℕ} 0 11 = ap (λ (v : Verdict). v .number) (sym p1-passes ∙ (h (two 1000) (two 1001) noFigures ∙ p2-refused)) in
+    let number : Verdict → ℕ = λ v. v .number in
+    let e : _≡_ {A = ℕ} 0 11 = sym (ap number p1-passes) ∙ (h (two 1000) (two 1001) noFigures ∙ ap number p2-refused) in
     absurd (omega arith)
 
 abbrev three : Table

@@ -3,7 +3,7 @@ use Prim.Native.Nat.{ℕ}
 use mathlib.Core.Path.{_≡_}
 use mathlib.Core.Bool.{false}
 use mathlib.Core.List.{List, [], _∷_, map}
-use lib.ListN.{replicate}
+use lib.ListN.{length, replicate}
 use Rattle.table.specs.declared.Board.{Board}
 use Rattle.table.specs.declared.Task.{Task}
 use Rattle.table.specs.declared.Sem.{Sem}
@@ -17,6 +17,8 @@ use Rattle.executive.specs.Tables.{Table}
 use Rattle.image.specs.Loading.{loadOf}
 use Rattle.image.specs.Writing.{encoded}
 use Rattle.charges.specs.Charges.{chargeOf}
+use Rattle.judging.specs.Columns.{columnsOf}
+use Rattle.judging.specs.Periods.{sharedPeriod}
 use Rattle.judging.specs.Verdicts.{verdictOf}
 use Rattle.theorems.specs.Histories.{Call, release, withdraw, acquire, give, called, after}
 
@@ -28,6 +30,8 @@ Step = Call × ℕ × ℕ
 pub data Case : Type 0 where
   -- tasks and figures; the charge of each task, the verdict's number and the task that it names
   judged : (tasks : List Task) (board : Board) (charges : List ℕ) (number task : ℕ) → Case
+  -- the same, and the shared period of the DP tasks
+  shared : (tasks : List Task) (board : Board) (charges : List ℕ) (number task period : ℕ) → Case
   -- a table, and calls from its loading on
   played : (table : Table) (steps : List Step) → Case
   -- the same, and other calls that lead to the same state
@@ -49,10 +53,16 @@ stepsOf s (c ∷ rest) = (c, (called s c) .answer, runs ((called s c) .state)) �
 abbrev pub callsOf : List Step → List Call
 callsOf steps = map (λ step. step .0) steps
 
+-- the charges and the verdict of a table
+abbrev pub Judged : List Task → Board → List ℕ → ℕ → ℕ → Type 0
+Judged tasks board charges number task =
+    (map (chargeOf tasks board) tasks ≡ charges) × (verdictOf tasks board ≡ record { number = number; task = task })
+
 -- what a row says
 abbrev pub Holds : Case → Type 0
-Holds (judged tasks board charges number task) =
-    (map (chargeOf tasks board) tasks ≡ charges) × (verdictOf tasks board ≡ record { number = number; task = task })
+Holds (judged tasks board charges number task) = Judged tasks board charges number task
+Holds (shared tasks board charges number task period) =
+    Judged tasks board charges number task × (sharedPeriod (columnsOf tasks board) (length tasks) ≡ period)
 Holds (played table steps) = stepsOf (loaded table) (callsOf steps) ≡ steps
 Holds (undone table steps others) =
     (stepsOf (loaded table) (callsOf steps) ≡ steps) × (after (loaded table) (callsOf steps) ≡ after (loaded table) others)
@@ -96,8 +106,8 @@ cases =
     judged (task 1 7 2000 1000 ∷ task 1 9 2000 1000 ∷ []) noFigures (0 ∷ 0 ∷ []) 0 0
     -- P2. Second cost 1,001: 11
     ∷ judged (task 1 7 2000 1000 ∷ task 1 9 2000 1001 ∷ []) noFigures (0 ∷ 0 ∷ []) 11 0
-    -- P3. Two DP1 tasks, cost 1, figures zero, periods 999,999 and 1,000,000: 0
-    ∷ judged (task 1 1 999999 1 ∷ task 1 2 1000000 1 ∷ []) noFigures (0 ∷ 0 ∷ []) 0 0
+    -- P3. Two DP1 tasks, cost 1, figures zero, periods 999,999 and 1,000,000: 0 (shared period 999,999,000,000)
+    ∷ shared (task 1 1 999999 1 ∷ task 1 2 1000000 1 ∷ []) noFigures (0 ∷ 0 ∷ []) 0 0 999999000000
     -- P4. 1,000,000 and 1,000,001: 10 at the second
     ∷ judged (task 1 1 1000000 1 ∷ task 1 2 1000001 1 ∷ []) noFigures (0 ∷ 0 ∷ []) 10 2
     -- P5. The source's Table 1 workload, no board record, first five in DP1, the rest FP: charges 1,485 and 1,418 ticks; P6. its verdict is 0

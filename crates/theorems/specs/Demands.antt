@@ -20,6 +20,7 @@ use Rattle.waits.specs.Standing.{ownOf, better, standingOf, readyAt, runningOf,
 use Rattle.waits.specs.Reaches.{IsStanding}
 use Rattle.executive.specs.Calls.{moved, standsOf}
 use Rattle.executive.specs.Tables.{tableOf, asLoaded}
+use Rattle.judging.specs.Columns.{columnsOf}
 use Rattle.judging.specs.Verdicts.{verdictOf}
 use Rattle.judging.specs.Passes.{Passes}
 use Rattle.image.specs.Loading.{loadOf, acceptedLoad}
@@ -43,7 +44,7 @@ use Rattle.theorems.specs.Histories.{
 use Rattle.theorems.specs.Loads.{GivenFor}
 use Rattle.theorems.specs.Standings.{StandingAnswer}
 use Rattle.theorems.specs.Undo.{Pulses}
-use Rattle.theorems.specs.Verdicts.{judgeConditions}
+use Rattle.theorems.specs.Verdicts.{Long, LateDP2, LateFP, judgeConditions, NamesFirst}
 use Rattle.theorems.specs.When.{FirstThat}
 
 -- Every state that comes is sound, and its table well formed: so no operation asks more of a state than 01 allows
@@ -83,6 +84,17 @@ LoadWhen = (image : List ℕ) (k place : ℕ) → (((loadOf image) .number ≡ k
 -- judging: the first of the tests 7, 10, 11, 12, 13, 14 that fails, and 0 where none does
 abbrev pub JudgeWhen : Type 0
 JudgeWhen = (tasks : List Task) (board : Board) (k : ℕ) → ((verdictOf tasks board) .number ≡ k) ↔ FirstThat (judgeConditions tasks board) k
+
+-- judging names the first task in table order at which 10, 13 or 14 arises, and task 0 otherwise
+abbrev pub JudgeNames : Type 0
+JudgeNames =
+    (tasks : List Task) (board : Board)
+    → let c = columnsOf tasks board in
+    let v = verdictOf tasks board in
+    (v .number ≡ 10 → NamesFirst tasks (Long c) (v .task))
+    × (v .number ≡ 13 → NamesFirst tasks (LateDP2 c) (v .task))
+    × (v .number ≡ 14 → NamesFirst tasks (LateFP c) (v .task))
+    × (v .number ≢ 10 → v .number ≢ 13 → v .number ≢ 14 → v .task ≡ 0)
 
 -- a refused load hands back the empty state
 abbrev pub RefusedLoad : Type 0

@@ -27,9 +27,9 @@ RefusesAll load = (image : List ℕ) → (load image) .number ≢ 0
 abbrev pub PassesNone : (List Task → Board → Verdict) → Type 0
 PassesNone judge = (tasks : List Task) (board : Board) → (judge tasks board) .number ≢ 0
 
--- one verdict for all
+-- one verdict for all: the number is the same, whichever task is named beside it
 abbrev pub OneVerdict : (List Task → Board → Verdict) → Type 0
-OneVerdict judge = (tasks others : List Task) (board : Board) → judge tasks board ≡ judge others board
+OneVerdict judge = (tasks others : List Task) (board : Board) → (judge tasks board) .number ≡ (judge others board) .number
 
 -- one chosen task for all: on a table, after any two lists of calls, it is the same task that runs, if one runs at all
 abbrev pub OneChoice : (Table → List Call → ℕ) → Type 0

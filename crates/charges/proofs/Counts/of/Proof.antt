@@ -61,26 +61,26 @@ loop-again c =
     let h : i < length (a .t1) = search needs in
     omega (arith, tasksIn-more 1 (a .t1) i blankTask h, tasksIn-more 2 (a .t1) i blankTask h, tasksIn-more 3 (a .t1) i blankTask h)
 
-one-used-requires : tie.Need-one-used-requires Inv-loop μ-loop
-one-used-requires c κs = search needs
+one-if-requires-4 : tie.Need-one-if-requires-4 Inv-loop μ-loop
+one-if-requires-4 c κs = search needs
 
-one-used-requires-2 : tie.Need-one-used-requires-2 Inv-loop μ-loop
-one-used-requires-2 c κs = search needs
+one-if-requires-5 : tie.Need-one-if-requires-5 Inv-loop μ-loop
+one-if-requires-5 c κs = search needs
 
 add-k : tie.Need-add-k Inv-loop μ-loop
 add-k c = search needs
 
-one-used-requires-3 : tie.Need-one-used-requires-3 Inv-loop μ-loop
-one-used-requires-3 c κs = search needs
+one-if-requires-6 : tie.Need-one-if-requires-6 Inv-loop μ-loop
+one-if-requires-6 c κs = search needs
 
 add-k-2 : tie.Need-add-k-2 Inv-loop μ-loop
 add-k-2 c = search needs
 
-cast-t16 : tie.Need-cast-t16 Inv-loop μ-loop
-cast-t16 c = omega arith
+cast-all : tie.Need-cast-all Inv-loop μ-loop
+cast-all c = omega arith
 
-add-t19 : tie.Need-add-t19 Inv-loop μ-loop
-add-t19 c = omega arith
+add-r : tie.Need-add-r Inv-loop μ-loop
+add-r c = omega arith
 
 larger-requires : tie.Need-larger-requires Inv-loop μ-loop
 larger-requires c κs = search needs
@@ -117,12 +117,12 @@ of-spec =
     add-i
     loop-less
     loop-again
-    one-used-requires
-    one-used-requires-2
+    one-if-requires-4
+    one-if-requires-5
     add-k
-    one-used-requires-3
+    one-if-requires-6
     add-k-2
-    cast-t16
-    add-t19
+    cast-all
+    add-r
     larger-requires
     returns)

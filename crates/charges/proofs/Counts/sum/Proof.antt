@@ -10,11 +10,11 @@ use Rattle.charges.specs.Charges.{sumBy}
 use Rattle.charges.proofs.Counts.sum.Statement.{statement}
 use Rattle.charges.proofs.Counts.sum.Tie as tie
 
-sum-dp1-requires : tie.Need-sum-dp1-requires
-sum-dp1-requires c κs = search needs
+sum-dp-requires : tie.Need-sum-dp-requires
+sum-dp-requires c κs = search needs
 
-sum-dp2-requires : tie.Need-sum-dp2-requires
-sum-dp2-requires c κs = search needs
+sum-dp-requires-2 : tie.Need-sum-dp-requires-2
+sum-dp-requires-2 c κs = search needs
 
 sum-fp-requires : tie.Need-sum-fp-requires
 sum-fp-requires c κs = search needs
@@ -38,4 +38,4 @@ returns-3 c =
 pub sum-spec : {M : Type 1} → statement M
 sum-spec =
     tie.close
-    (tie.spec sum-dp1-requires sum-dp2-requires sum-fp-requires returns returns-2 returns-3)
+    (tie.spec sum-dp-requires sum-dp-requires-2 sum-fp-requires returns returns-2 returns-3)

@@ -1,10 +1,11 @@
--- `judging::judge::judge` meets its contract: the tests are made on the lists of the state's tasks, and the place that they name is a task's.
+-- `judging::judge::judge` meets its contract: the tests are made on the columns of the state's tasks, and the place that they name is a task's.
 -- Assumes nothing.
 use borrow.Author.Needs.{needs}
-use Prim.Native.Nat.{ℕ, _<_}
-use mathlib.Core.Path.{_≡_, sym, ap, _∙_}
+use Prim.Native.Nat.{ℕ, _≤_, _<_}
+use mathlib.Core.Path.{_≡_, sym, ap, subst, _∙_}
+use mathlib.Core.List.{List}
 use native.Mathlib.Omega.{arith}
-use lib.ListN.{length}
+use lib.ListN.{length, take, length-take}
 use lib.Seq.{getD-take, length-take-le}
 use Rattle.table.specs.declared.Task.{Task}
 use Rattle.table.specs.declared.Found.the-variants.{At}
@@ -12,80 +13,108 @@ use Rattle.table.specs.Entries.{blankTask}
 use Rattle.executive.specs.declared.state.State.{State}
 use Rattle.executive.specs.States.{tasksOf, semsOf}
 use Rattle.executive.specs.Sound.{Sound}
+use Rattle.judging.specs.declared.Columns.{Columns}
 use Rattle.judging.specs.declared.Outcome.{Outcome}
+use Rattle.judging.specs.Columns.{firstTasks, columnsOf}
 use Rattle.judging.specs.Ranges.{InRange}
-use Rattle.judging.specs.Verdicts.{queuesOf, periodsOf, loadsOf, outcomeOf, named, verdictOf}
+use Rattle.judging.specs.Verdicts.{outcomeOf, named, verdictOf}
 use Rattle.judging.proofs.ColumnLaws.{getD-any, queues-length, periods-length, loads-length, columns-range}
 use Rattle.judging.proofs.VerdictLaws.{outcome-below, named-task, named-none}
 use Rattle.judging.proofs.judge.judge.Statement.{statement}
 use Rattle.judging.proofs.judge.judge.Tie as tie
 
-queues-of-requires : tie.Need-queues-of-requires
-queues-of-requires c κs = search needs
-
-periods-of-requires : tie.Need-periods-of-requires
-periods-of-requires c κs = search needs
-
-loads-of-requires : tie.Need-loads-of-requires
-loads-of-requires c κs = search needs
-
-array-share-prefix-queues : tie.Need-array-share-prefix-queues
-array-share-prefix-queues c = search needs
+columns-of-requires : tie.Need-columns-of-requires
+columns-of-requires c κs = search needs
 
 -- the tasks that there are, and their columns in range
-size : (s : State) → Sound s → length (tasksOf s) ≡ s .n
-unfolding tasksOf
-size s h = length-take-le (s .n) (s .tasks) (omega (arith, h .sized .tasksLength, h .sized .tasksFit))
+module _ (s : State) (sound : Sound s) where
+  abbrev own : Columns
+  own = columnsOf (tasksOf s) (s .board)
 
-ranges : (s : State) → Sound s → InRange (queuesOf (tasksOf s)) (periodsOf (tasksOf s)) (loadsOf (tasksOf s) (s .board))
-ranges s h =
-    columns-range (tasksOf s) (semsOf s) (s .board) (s .present) (omega (arith, size s h, h .sized .tasksFit))
-    (λ k. h .table (omega (arith, size s h)))
+  size : length (tasksOf s) ≡ s .n
+  unfolding tasksOf
+  size = length-take-le (s .n) (s .tasks) (omega (arith, sound .sized .tasksLength, sound .sized .tasksFit))
 
--- what the tests answer, of the state's own tasks
-judged : (c : tie.After-outcome)
-    → c .outcome .result
-    ≡ outcomeOf (queuesOf (tasksOf (c .before .before .before .before .before .before .before .before .args .state))) (periodsOf (tasksOf (c .before .before .before .before .before .before .before .before .args .state))) (loadsOf (tasksOf (c .before .before .before .before .before .before .before .before .args .state)) (c .before .before .before .before .before .before .before .before .args .state .board))
-unfolding tasksOf
-judged c = c .outcome .ensures ∙ rw (c .before .before .before .before .before .before .queues-of .ensures, c .before .before .before .before .before .periods-of .ensures, c .before .before .before .before .loads-of .ensures)
+  range : InRange own
+  range =
+      columns-range (tasksOf s) (s .board) (semsOf s) (s .present) (omega (arith, size, sound .sized .tasksFit))
+      (λ k. sound .table (omega (arith, size)))
 
--- the place that is named is that of a task
-inside : (c : tie.After-outcome) (i : ℕ) → c .outcome .result .place ≡ At i → i < c .before .before .before .before .before .before .before .before .args .state .n
-inside c i e =
-    let s = c .before .before .before .before .before .before .before .before .args .state in
-    let o = outcome-below (queuesOf (tasksOf s)) (periodsOf (tasksOf s)) (loadsOf (tasksOf s) (s .board)) i (ap (λ (x : Outcome). x .place) (sym (judged c)) ∙ e) in
-    omega (arith, o, queues-length (tasksOf s), size s (c .before .before .before .before .before .before .before .before .pre))
+module _ (c : tie.After-columns-of) where
+  abbrev s : State
+  s = c .before .before .args .state
+
+  abbrev sound : Sound s
+  sound = c .before .before .pre
+
+  -- what was made are their columns, each with an entry for each task
+  made : firstTasks (s .n) (c .columns-of .result) ≡ own s sound
+  unfolding tasksOf
+  made = c .columns-of .ensures
+
+  entries : (column : Columns → List ℕ) → length (column (own s sound)) ≡ length (tasksOf s)
+      → s .n ≡ length (column (firstTasks (s .n) (c .columns-of .result)))
+  entries column l = sym (ap (λ (x : Columns). length (column x)) made ∙ (l ∙ size s sound))
+
+  queues : s .n ≡ length (take (s .n) (c .columns-of .result .queues))
+  queues = entries (λ x. x .queues) (queues-length (tasksOf s) (s .board))
+
+  periods : s .n ≡ length (take (s .n) (c .columns-of .result .periods))
+  periods = entries (λ x. x .periods) (periods-length (tasksOf s) (s .board))
+
+  loads : s .n ≡ length (take (s .n) (c .columns-of .result .loads))
+  loads = entries (λ x. x .loads) (loads-length (tasksOf s) (s .board))
+
+-- a list from which n entries are taken has them
+reach : (n : ℕ) (list : List ℕ) → n ≡ length (take n list) → n ≤ length list
+reach n list e = omega (arith, length-take n list)
+
+array-share-prefix-queues : tie.Need-array-share-prefix-queues
+array-share-prefix-queues c = reach _ _ (queues (c .before .before .before))
 
 slice-aggregate-outcome : tie.Need-slice-aggregate-outcome
-unfolding tasksOf
-slice-aggregate-outcome c = sym (ap length (c .before .before .before .queues-of .ensures) ∙ queues-length (tasksOf (c .before .before .before .before .before .args .state)) ∙ size (c .before .before .before .before .before .args .state) (c .before .before .before .before .before .pre))
+slice-aggregate-outcome c = queues (c .before .before .before .before)
 
 array-share-prefix-periods : tie.Need-array-share-prefix-periods
-array-share-prefix-periods c = search needs
+array-share-prefix-periods c = reach _ _ (periods (c .before .before .before .before))
 
 slice-aggregate-outcome-2 : tie.Need-slice-aggregate-outcome-2
-unfolding tasksOf
-slice-aggregate-outcome-2 c = sym (ap length (c .before .before .before .periods-of .ensures) ∙ periods-length (tasksOf (c .before .before .before .before .before .before .args .state)) ∙ size (c .before .before .before .before .before .before .args .state) (c .before .before .before .before .before .before .pre))
+slice-aggregate-outcome-2 c = periods (c .before .before .before .before .before)
 
 array-share-prefix-loads : tie.Need-array-share-prefix-loads
-array-share-prefix-loads c = search needs
+array-share-prefix-loads c = reach _ _ (loads (c .before .before .before .before .before))
 
 slice-aggregate-outcome-3 : tie.Need-slice-aggregate-outcome-3
-unfolding tasksOf
-slice-aggregate-outcome-3 c = sym (ap length (c .before .before .before .loads-of .ensures) ∙ loads-length (tasksOf (c .before .before .before .before .before .before .before .args .state)) (c .before .before .before .before .before .before .before .args .state .board) ∙ size (c .before .before .before .before .before .before .before .args .state) (c .before .before .before .before .before .before .before .pre))
+slice-aggregate-outcome-3 c = loads (c .before .before .before .before .before .before)
 
 outcome-requires : tie.Need-outcome-requires
-unfolding tasksOf
-outcome-requires c κs = rw (c .before .before .before .before .before .queues-of .ensures, c .before .before .before .before .periods-of .ensures, c .before .before .before .loads-of .ensures) (ranges (c .before .before .before .before .before .before .before .args .state) (c .before .before .before .before .before .before .before .pre))
+outcome-requires c κs =
+    let m = c .before .before .before .before .before .before in
+    subst (λ (x : Columns). InRange x) (sym (made m)) (range (s m) (sound m))
 
 enum-known-place : tie.Need-enum-known-place
 enum-known-place c = search needs
 
-mul-t20 : tie.Need-mul-t20
-mul-t20 c = omega (arith, inside (c .before .before .before) _ (c .before .place .given .1))
+module _ (c : tie.After-outcome) where
+  abbrev m : tie.After-columns-of
+  m = c .before .before .before .before .before .before .before
 
-element-copy-out-t23 : tie.Need-element-copy-out-t23
-element-copy-out-t23 c = omega (arith, inside (c .before .before .before) _ (c .before .place .given .1), c .before .before .before .before .before .before .before .before .before .before .before .pre .sized .tasksFit)
+  -- what the tests answer, of the state's own tasks
+  judged : c .outcome .result ≡ outcomeOf (own (s m) (sound m))
+  judged = c .outcome .ensures ∙ ap outcomeOf (made m)
+
+  -- the place that is named is that of a task
+  inside : (i : ℕ) → c .outcome .result .place ≡ At i → i < s m .n
+  inside i e =
+      let o = outcome-below (own (s m) (sound m)) i (ap (λ (x : Outcome). x .place) (sym judged) ∙ e) in
+      omega (arith, o, queues-length (tasksOf (s m)) (s m .board), size (s m) (sound m))
+
+mul-t19 : tie.Need-mul-t19
+mul-t19 c = omega (arith, inside (c .before .before .before) _ (c .before .place .given .1))
+
+element-copy-out-t22 : tie.Need-element-copy-out-t22
+element-copy-out-t22 c =
+    omega (arith, inside (c .before .before .before) _ (c .before .place .given .1), sound (m (c .before .before .before)) .sized .tasksFit)
 
 enum-told : tie.Need-enum-told
 enum-told c = search needs
@@ -93,28 +122,26 @@ enum-told c = search needs
 returns : tie.Need-returns
 unfolding tasksOf verdictOf
 returns c =
-    let s = c .before .before .before .before .before .before .before .before .before .before .before .args .state in
-    let o = c .before .before .before .outcome .result in
+    let o = c .before .before .before in
+    let t = s (m o) in
     let i = c .before .place .given .0 .0 in
-    let l : i < s .n = inside (c .before .before .before) i (c .before .place .given .1) in
-    let k : i < length (s .tasks) = omega (arith, c .before .before .before .before .before .before .before .before .before .before .before .pre .sized .tasksLength, c .before .before .before .before .before .before .before .before .before .before .before .pre .sized .tasksFit) in
-    named-task (tasksOf s) o i _ (c .before .place .given .1)
-    (ap (λ (t : Task). t .number) (getD-any (s .tasks) i _ blankTask k ∙ sym (getD-take (s .n) (s .tasks) i blankTask l)))
-    ∙ ap (named (tasksOf s)) (judged (c .before .before .before))
+    let l : i < t .n = inside o i (c .before .place .given .1) in
+    let k : i < length (t .tasks) = omega (arith, sound (m o) .sized .tasksLength, sound (m o) .sized .tasksFit) in
+    named-task (tasksOf t) (o .outcome .result) i _ (c .before .place .given .1)
+    (ap (λ (t : Task). t .number) (getD-any (t .tasks) i _ blankTask k ∙ sym (getD-take (t .n) (t .tasks) i blankTask l)))
+    ∙ ap (named (tasksOf t)) (judged o)
 
 returns-2 : tie.Need-returns-2
-unfolding tasksOf verdictOf
+unfolding verdictOf
 returns-2 c =
-    let s = c .before .before .before .before .before .before .before .before .before .before .args .state in
-    named-none (tasksOf s) (c .before .before .outcome .result) (c .enum-told .given .1) ∙ ap (named (tasksOf s)) (judged (c .before .before))
+    let o = c .before .before in
+    named-none (tasksOf (s (m o))) (o .outcome .result) (c .enum-told .given .1) ∙ ap (named (tasksOf (s (m o)))) (judged o)
 
 pub judge-spec : {M : Type 1} → statement M
 judge-spec =
     tie.close
     (tie.spec
-    queues-of-requires
-    periods-of-requires
-    loads-of-requires
+    columns-of-requires
     array-share-prefix-queues
     slice-aggregate-outcome
     array-share-prefix-periods
@@ -123,8 +150,8 @@ judge-spec =
     slice-aggregate-outcome-3
     outcome-requires
     enum-known-place
-    mul-t20
-    element-copy-out-t23
+    mul-t19
+    element-copy-out-t22
     enum-told
     returns
     returns-2)

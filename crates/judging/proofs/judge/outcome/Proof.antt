@@ -1,7 +1,7 @@
 -- `judging::judge::outcome` meets its contract: each way out is one number of the ordered list.
 -- Assumes nothing.
 use borrow.Author.Needs.{needs}
-use Prim.Native.Nat.{ℕ}
+use Prim.Native.Nat.{ℕ, _≤_}
 use mathlib.Core.Path.{_≡_, sym, subst, _∙_}
 use mathlib.Core.Bool.{false}
 use native.Mathlib.Omega.{arith}
@@ -9,10 +9,11 @@ use borrow.Author.Tests.{eq-eqb, ne-eqb}
 use lib.Dec.{eqb}
 use lib.ListN.{length}
 use Rattle.table.specs.declared.Found.the-variants.{Nothing}
-use Rattle.judging.specs.Periods.{sharedPeriod}
+use Rattle.judging.specs.declared.Columns.{Columns}
+use Rattle.judging.specs.Columns.{columns}
+use Rattle.judging.specs.Periods.{sharedPeriod, overFull}
 use Rattle.judging.specs.Ranges.{Common}
 use Rattle.judging.specs.Verdicts.{firstLong}
-use Rattle.judging.proofs.DemandLaws.{periods-range}
 use Rattle.judging.proofs.VerdictLaws.{
   shared-above,
   shared-within,
@@ -28,14 +29,18 @@ use Rattle.judging.proofs.VerdictLaws.{
 use Rattle.judging.proofs.judge.outcome.Statement.{statement}
 use Rattle.judging.proofs.judge.outcome.Tie as tie
 
+-- the columns that are lent
+abbrev given : tie.Start → Columns
+given s = columns (s .args .queues .now) (s .args .periods .now) (s .args .loads .now)
+
 unnamed-requires : tie.Need-unnamed-requires
 unnamed-requires c κs = search needs
 
 returns : tie.Need-returns
-returns c = c .unnamed .ensures ∙ outcome-7 (c .before .before .before .before .before .args .queues .now) (c .before .before .before .before .before .args .periods .now) (c .before .before .before .before .before .args .loads .now) (eq-eqb _ _ (c .before .if1 .taken))
+returns c = c .unnamed .ensures ∙ outcome-7 (given (c .before .before .before .before .before)) (eq-eqb _ _ (c .before .if1 .taken))
 
 shared-period-requires : tie.Need-shared-period-requires
-shared-period-requires c κs = (c .before .before .before .before .pre .periodsLength, periods-range (c .before .before .before .before .pre))
+shared-period-requires c κs = let r = c .before .before .before .before .pre in (r .periodsLength, r .periods)
 
 enum-known-shared : tie.Need-enum-known-shared
 enum-known-shared c = search needs
@@ -46,44 +51,48 @@ named-requires c κs = search needs
 enum-known-shared-2 : tie.Need-enum-known-shared-2
 enum-known-shared-2 c = search needs
 
--- past 7, there is a task
-some : (c : tie.After-shared2) → eqb (length (c .before .before .before .before .before .before .before .args .queues .now)) 0 ≡ false
-some c = ne-eqb _ _ (c .before .before .before .if1 .left)
+module _ (c : tie.After-shared2) where
+  abbrev s : tie.Start
+  s = c .before .before .before .before .before .before .before
 
--- past 10, the shared period is the least common multiple
-held : (c : tie.After-shared2)
-    → (firstLong (c .before .before .before .before .before .before .before .args .queues .now) (c .before .before .before .before .before .before .before .args .periods .now) ≡ Nothing)
-    × (c .shared2 .given .0 .0 ≡ sharedPeriod (c .before .before .before .before .before .before .before .args .queues .now) (c .before .before .before .before .before .before .before .args .periods .now) (length (c .before .before .before .before .before .before .before .args .queues .now)))
-held c = shared-within (c .before .before .before .before .before .before .before .args .queues .now) (c .before .before .before .before .before .before .before .args .periods .now) (c .before .before .before .before .before .before .before .args .loads .now) (c .shared2 .given .0 .0) (sym (c .shared2 .given .1) ∙ c .before .before .shared-period .ensures)
+  -- past 7 and 10, there is a task, and the shared period is the least common multiple
+  some : eqb (length (given s .queues)) 0 ≡ false
+  some = ne-eqb _ _ (c .before .before .before .if1 .left)
+
+  held : (firstLong (given s) ≡ Nothing) × (c .shared2 .given .0 .0 ≡ sharedPeriod (given s) (length (given s .queues)))
+  held =
+      shared-within (given s .queues) (given s .periods) (given s .loads) (c .shared2 .given .0 .0)
+      (sym (c .shared2 .given .1) ∙ c .before .before .shared-period .ensures)
+
+  common : (last : ℕ) → last ≤ 2 → Common (given s) last (c .shared2 .given .0 .0)
+  common last l = subst (λ (z : ℕ). Common (given s) last z) (sym (held .1)) (shared-common (given s) last l (s .pre) (held .0))
 
 over-full-requires : tie.Need-over-full-requires
-over-full-requires c κs =
-    let s = c .before in
-    let r = c .before .before .before .before .before .before .before .before .pre in
-    (r, subst (λ (z : ℕ). Common (c .before .before .before .before .before .before .before .before .args .queues .now) (c .before .before .before .before .before .before .before .before .args .periods .now) 1 z) (sym (held s .1)) (shared-common (c .before .before .before .before .before .before .before .before .args .queues .now) (c .before .before .before .before .before .before .before .before .args .periods .now) (c .before .before .before .before .before .before .before .before .args .loads .now) 1 (omega arith) r (held s .0)))
+over-full-requires c κs = (s (c .before) .pre, common (c .before) 1 (omega arith))
 
 unnamed-requires-2 : tie.Need-unnamed-requires-2
 unnamed-requires-2 c κs = search needs
 
 returns-2 : tie.Need-returns-2
-returns-2 c = c .unnamed2 .ensures ∙ outcome-11 (c .before .before .before .before .before .before .before .before .before .before .before .args .queues .now) (c .before .before .before .before .before .before .before .before .before .before .before .args .periods .now) (c .before .before .before .before .before .before .before .before .before .before .before .args .loads .now) (some (c .before .before .before .before)) (held (c .before .before .before .before) .0) (sym (c .before .before .over-full .ensures) ∙ c .before .if2 .taken)
+returns-2 c =
+    let h = c .before .before .before .before in
+    c .unnamed2 .ensures ∙ outcome-11 (given (s h)) (some h) (held h .0) (sym (c .before .before .over-full .ensures) ∙ c .before .if2 .taken)
 
 over-full-requires-2 : tie.Need-over-full-requires-2
-over-full-requires-2 c κs =
-    let s = c .before .before .before in
-    let r = c .before .before .before .before .before .before .before .before .before .before .pre in
-    (r, subst (λ (z : ℕ). Common (c .before .before .before .before .before .before .before .before .before .before .args .queues .now) (c .before .before .before .before .before .before .before .before .before .before .args .periods .now) 2 z) (sym (held s .1)) (shared-common (c .before .before .before .before .before .before .before .before .before .before .args .queues .now) (c .before .before .before .before .before .before .before .before .before .before .args .periods .now) (c .before .before .before .before .before .before .before .before .before .before .args .loads .now) 2 (omega arith) r (held s .0)))
+over-full-requires-2 c κs = let h = c .before .before .before in (s h .pre, common h 2 (omega arith))
 
 unnamed-requires-3 : tie.Need-unnamed-requires-3
 unnamed-requires-3 c κs = search needs
 
 returns-3 : tie.Need-returns-3
 returns-3 c =
+    let h = c .before .before .before .before .before .before in
     c .unnamed3 .ensures
-    ∙ outcome-12 (c .before .before .before .before .before .before .before .before .before .before .before .before .before .args .queues .now) (c .before .before .before .before .before .before .before .before .before .before .before .before .before .args .periods .now) (c .before .before .before .before .before .before .before .before .before .before .before .before .before .args .loads .now) (some (c .before .before .before .before .before .before)) (held (c .before .before .before .before .before .before) .0) (sym (c .before .before .before .before .over-full .ensures) ∙ c .before .before .before .if2 .left) (sym (c .before .before .over-full2 .ensures) ∙ c .before .if3 .taken)
+    ∙ outcome-12 (given (s h)) (some h) (held h .0) (sym (c .before .before .before .before .over-full .ensures) ∙ c .before .before .before .if2 .left)
+    (sym (c .before .before .over-full2 .ensures) ∙ c .before .if3 .taken)
 
-first-late-dp2-requires : tie.Need-first-late-dp2-requires
-first-late-dp2-requires c κs = search needs
+first-late-requires : tie.Need-first-late-requires
+first-late-requires c κs = search needs
 
 enum-known-dp2 : tie.Need-enum-known-dp2
 enum-known-dp2 c = search needs
@@ -91,17 +100,29 @@ enum-known-dp2 c = search needs
 named-requires-2 : tie.Need-named-requires-2
 named-requires-2 c κs = search needs
 
+module _ (c : tie.Else3) where
+  abbrev h : tie.After-shared2
+  h = c .before .before .before .before .before
+
+  -- past 11 and 12, nothing is over full
+  dp1 : overFull (given (s h)) 1 ≡ false
+  dp1 = sym (c .before .before .before .over-full .ensures) ∙ c .before .before .if2 .left
+
+  dp : overFull (given (s h)) 2 ≡ false
+  dp = sym (c .before .over-full2 .ensures) ∙ c .if3 .left
+
 returns-4 : tie.Need-returns-4
 returns-4 c =
+    let e = c .before .before .before .before .before in
     c .named2 .ensures
-    ∙ outcome-13 (c .before .before .before .before .before .before .before .before .before .before .before .before .before .before .before .before .before .args .queues .now) (c .before .before .before .before .before .before .before .before .before .before .before .before .before .before .before .before .before .args .periods .now) (c .before .before .before .before .before .before .before .before .before .before .before .before .before .before .before .before .before .args .loads .now) _ (some (c .before .before .before .before .before .before .before .before .before .before)) (held (c .before .before .before .before .before .before .before .before .before .before) .0) (sym (c .before .before .before .before .before .before .before .before .over-full .ensures) ∙ c .before .before .before .before .before .before .before .if2 .left) (sym (c .before .before .before .before .before .before .over-full2 .ensures) ∙ c .before .before .before .before .before .if3 .left)
-    (sym (c .before .before .before .before .first-late-dp2 .ensures) ∙ c .before .before .dp2 .given .1)
+    ∙ outcome-13 (given (s (h e))) (some (h e)) (held (h e) .0) (dp1 e) (dp e) _
+    (sym (c .before .before .before .before .first-late .ensures) ∙ c .before .before .dp2 .given .1)
 
 enum-told : tie.Need-enum-told
 enum-told c = search needs
 
-first-late-fp-requires : tie.Need-first-late-fp-requires
-first-late-fp-requires c κs = search needs
+first-late-requires-2 : tie.Need-first-late-requires-2
+first-late-requires-2 c κs = search needs
 
 enum-known-fp : tie.Need-enum-known-fp
 enum-known-fp c = search needs
@@ -117,20 +138,26 @@ unnamed-requires-4 c κs = search needs
 
 returns-5 : tie.Need-returns-5
 returns-5 c =
+    let g = given (c .before .before .before .before .before .before .before .before .before) in
     c .named .ensures
-    ∙ outcome-10 (c .before .before .before .before .before .before .before .before .before .args .queues .now) (c .before .before .before .before .before .before .before .before .before .args .periods .now) (c .before .before .before .before .before .before .before .before .before .args .loads .now) _ (ne-eqb _ _ (c .before .before .before .before .before .if1 .left)) (shared-above (c .before .before .before .before .before .before .before .before .before .args .queues .now) (c .before .before .before .before .before .before .before .before .before .args .periods .now) (c .before .before .before .before .before .before .before .before .before .args .loads .now) _ (sym (c .before .before .shared .given .1) ∙ c .before .before .before .before .shared-period .ensures))
+    ∙ outcome-10 g (ne-eqb _ _ (c .before .before .before .before .before .if1 .left)) _
+    (shared-above (g .queues) (g .periods) (g .loads) _ (sym (c .before .before .shared .given .1) ∙ c .before .before .before .before .shared-period .ensures))
 
 returns-6 : tie.Need-returns-6
 returns-6 c =
+    let e = c .before .before .before .before .before .before .before .before in
     c .named3 .ensures
-    ∙ outcome-14 (c .before .before .before .before .before .before .before .before .before .before .before .before .before .before .before .before .before .before .before .before .args .queues .now) (c .before .before .before .before .before .before .before .before .before .before .before .before .before .before .before .before .before .before .before .before .args .periods .now) (c .before .before .before .before .before .before .before .before .before .before .before .before .before .before .before .before .before .before .before .before .args .loads .now) _ (some (c .before .before .before .before .before .before .before .before .before .before .before .before .before)) (held (c .before .before .before .before .before .before .before .before .before .before .before .before .before) .0) (sym (c .before .before .before .before .before .before .before .before .before .before .before .over-full .ensures) ∙ c .before .before .before .before .before .before .before .before .before .before .if2 .left) (sym (c .before .before .before .before .before .before .before .before .before .over-full2 .ensures) ∙ c .before .before .before .before .before .before .before .before .if3 .left)
-    (sym (c .before .before .before .before .before .before .before .first-late-dp2 .ensures) ∙ c .before .before .before .before .before .enum-told .given .1) (sym (c .before .before .before .before .first-late-fp .ensures) ∙ c .before .before .fp .given .1)
+    ∙ outcome-14 (given (s (h e))) (some (h e)) (held (h e) .0) (dp1 e) (dp e)
+    (sym (c .before .before .before .before .before .before .before .first-late .ensures) ∙ c .before .before .before .before .before .enum-told .given .1) _
+    (sym (c .before .before .before .before .first-late2 .ensures) ∙ c .before .before .fp .given .1)
 
 returns-7 : tie.Need-returns-7
 returns-7 c =
+    let e = c .before .before .before .before .before .before .before in
     c .unnamed4 .ensures
-    ∙ outcome-0 (c .before .before .before .before .before .before .before .before .before .before .before .before .before .before .before .before .before .before .before .args .queues .now) (c .before .before .before .before .before .before .before .before .before .before .before .before .before .before .before .before .before .before .before .args .periods .now) (c .before .before .before .before .before .before .before .before .before .before .before .before .before .before .before .before .before .before .before .args .loads .now) (some (c .before .before .before .before .before .before .before .before .before .before .before .before)) (held (c .before .before .before .before .before .before .before .before .before .before .before .before) .0) (sym (c .before .before .before .before .before .before .before .before .before .before .over-full .ensures) ∙ c .before .before .before .before .before .before .before .before .before .if2 .left) (sym (c .before .before .before .before .before .before .before .before .over-full2 .ensures) ∙ c .before .before .before .before .before .before .before .if3 .left)
-    (sym (c .before .before .before .before .before .before .first-late-dp2 .ensures) ∙ c .before .before .before .before .enum-told .given .1) (sym (c .before .before .before .first-late-fp .ensures) ∙ c .before .enum-told2 .given .1)
+    ∙ outcome-0 (given (s (h e))) (some (h e)) (held (h e) .0) (dp1 e) (dp e)
+    (sym (c .before .before .before .before .before .before .first-late .ensures) ∙ c .before .before .before .before .enum-told .given .1)
+    (sym (c .before .before .before .first-late2 .ensures) ∙ c .before .enum-told2 .given .1)
 
 pub outcome-spec : {M : Type 1} → statement M
 outcome-spec =
@@ -148,12 +175,12 @@ outcome-spec =
     over-full-requires-2
     unnamed-requires-3
     returns-3
-    first-late-dp2-requires
+    first-late-requires
     enum-known-dp2
     named-requires-2
     returns-4
     enum-told
-    first-late-fp-requires
+    first-late-requires-2
     enum-known-fp
     named-requires-3
     enum-told-2

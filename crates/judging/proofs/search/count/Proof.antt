@@ -40,7 +40,7 @@ returns-2 c =
 
 sub-result : tie.Need-sub-result
 unfolding ceil
-sub-result c = let a = c .before .before .before .args in factor-pos (ceil (a .t) (a .period)) (a .period) (a .own) (c .if3 .left)
+sub-result c = let a = c .before .before .before .args in omega (arith, factor-pos (ceil (a .t) (a .period)) (a .period) (a .own) (c .if3 .left))
 
 returns-3 : tie.Need-returns-3
 unfolding ceil

@@ -6,7 +6,7 @@ use mathlib.Core.Path.{_≡_, ap, _∙_}
 use native.Mathlib.Nat.{mul-le-mul}
 use native.Mathlib.Omega.{arith}
 use lib.ListN.{length}
-use Rattle.judging.specs.Periods.{at}
+use Rattle.judging.specs.Columns.{at}
 use Rattle.judging.specs.Demands.{sumTo, counted, demandDP2}
 use Rattle.judging.proofs.DemandLaws.{sumTo-more}
 use Rattle.judging.proofs.search.demand.Statement.{statement}
@@ -43,11 +43,11 @@ count-requires c κs =
     let r = c .before .before .before .before .before .before .before .before .pre .0 in
     let i = c .before .before .before .before .loop .i in
     let h = c .before .before .before .loop-test .taken in
-    (r .periodsLeast i h, r .periodsMost i h, c .before .before .before .before .before .before .before .before .pre .1)
+    (r .periods .least i h, r .periods .most i h, c .before .before .before .before .before .before .before .before .pre .1)
 
 -- a load times its count
 term : (c : tie.After-count Inv-loop μ-loop) → at (c .before .before .before .before .before .before .before .before .before .args .loads .now) (c .before .before .before .before .before .loop .i) * c .count .result ≤ 1000000000 * 100000000
-term c = mul-le-mul (c .before .before .before .before .before .before .before .before .before .pre .0 .loadsMost (c .before .before .before .before .before .loop .i) (c .before .before .before .before .loop-test .taken)) (c .count .ensures .1)
+term c = mul-le-mul (c .before .before .before .before .before .before .before .before .before .pre .0 .loads (c .before .before .before .before .before .loop .i) (c .before .before .before .before .loop-test .taken)) (c .count .ensures .1)
 
 mul-sum-2 : tie.Need-mul-sum-2 Inv-loop μ-loop
 mul-sum-2 c = omega (arith, term c)

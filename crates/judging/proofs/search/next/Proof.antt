@@ -8,7 +8,7 @@ use native.Mathlib.Nat.{add-mul, div-le-self, div-mul-le-self, lt-div-mul-add, n
 use native.Mathlib.Omega.{arith}
 use borrow.Author.Count.{below-more}
 use lib.ListN.{length}
-use Rattle.judging.specs.Periods.{at}
+use Rattle.judging.specs.Columns.{at}
 use Rattle.judging.proofs.search.next.Statement.{statement}
 use Rattle.judging.proofs.search.next.Tie as tie
 

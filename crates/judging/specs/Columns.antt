@@ -1,0 +1,24 @@
+-- The columns of a table: the queue, the period and the load of each task, in table order. Every test of judging speaks of these lists.
+use Prim.Native.Nat.{ℕ}
+use mathlib.Core.List.{List, map}
+use lib.ListN.{getD, take}
+use Rattle.table.specs.declared.Board.{Board}
+use Rattle.table.specs.declared.Task.{Task}
+use Rattle.charges.specs.Charges.{loadOf}
+use Rattle.judging.specs.declared.Columns.{Columns}
+
+-- what stands at a position
+abbrev pub at : List ℕ → ℕ → ℕ
+at list i = getD list i 0
+
+-- columns, of lists
+abbrev pub columns : List ℕ → List ℕ → List ℕ → Columns
+columns queues periods loads = record { queues = queues; periods = periods; loads = loads }
+
+-- the columns of the first n tasks
+abbrev pub firstTasks : ℕ → Columns → Columns
+firstTasks n c = columns (take n (c .queues)) (take n (c .periods)) (take n (c .loads))
+
+-- the columns of these tasks at these figures; the load is that of 01, "Charges"
+unfoldable pub columnsOf : List Task → Board → Columns
+columnsOf tasks board = columns (map (λ t. t .queue) tasks) (map (λ t. t .period) tasks) (map (loadOf tasks board) tasks)
