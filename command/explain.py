@@ -1,0 +1,55 @@
+"""An answer in plain sentences: what its number means, what it names, and for a table that was loaded each task's part of the processor."""
+from command.numbers import MEANING
+from command.output import columns, counted
+from command.records import MOST, RECORD, in_words, records
+from command.tables import Table, against_one, figures, percent, share
+
+
+def lines(image):
+    table = Table(image)
+    number = table.answer.number
+    yield f'{number} means "{MEANING[number]}"{"" if number else ": the table passes"}.'
+    yield from refused(table) if table.judged.load else judged(table)
+
+
+def refused(table):
+    """What a refused load names. The loader tells a record's place; its bytes are shown for the reader to judge."""
+    image, (_, number, place) = table.image, table.answer
+    length = f"{len(image):,}" if len(image) <= MOST else f"more than {MOST:,}"
+    if number == 1:
+        yield f"The image has {length} bytes. No record was looked at."
+    elif number == 7:
+        yield f"The image has {length} bytes and {counted(place, 'record')}, none of them a task; the place is their count."
+    else:
+        record = records(image)[place]
+        yield f"It names record {place}, counted from 0, at bytes {place * RECORD} to {place * RECORD + RECORD - 1}: {in_words(record)}."
+        for at in range(0, RECORD, RECORD // 2):
+            yield "    " + record[at : at + RECORD // 2].hex(" ")
+    yield "The image is refused as a whole: no task of it is judged."
+
+
+def judged(table):
+    named = table.task(table.judged.task)
+    if named:
+        yield f"It names task {named.number}, the first in table order at which it arises: {named.queue}, period {named.period:,}, cost {named.cost:,}."
+    elif table.judged.verdict:
+        yield "It names no task."
+    yield f"The image is loaded: {table.held()}."
+    yield f"The figures are {figures(table)}{': ' if table.board else ''}{', '.join(f'{k} {v:,}' for k, v in (table.board or {}).items())}."
+    yield ""
+    yield from task_rows(table)
+    yield ""
+    yield from sum_rows(table)
+
+
+def task_rows(table):
+    rows = [("task", "queue", "period", "cost", "charge", "load", "load/period", "")]
+    for t in table.tasks:
+        mark = f"<- {MEANING[table.judged.verdict]}" if t.number == table.judged.task else ""
+        rows.append((str(t.number), t.queue, *(f"{v:,}" for v in (t.period, t.cost, t.charge, t.load)), percent(t.share), mark))
+    return columns(rows, right=(0, 2, 3, 4, 5, 6))
+
+
+def sum_rows(table):
+    rows = [(name, counted(len(tasks), "task"), against_one(share(tasks))) for name, tasks in table.sums()]
+    return columns(rows, right=(1,))

@@ -1,0 +1,108 @@
+"""`inventory`: a row for each image of a shelf of memories, and totals for each kind of answer, worst first."""
+import json
+import os
+from collections import Counter
+
+from command import files, library
+from command.output import Trouble, columns, complain, counted, say
+from command.tables import Answer, answer, meaning
+
+ENDINGS = (".img", ".bin")
+MANY = 3
+
+
+def folder(path):
+    """The images of a folder in name order, and what is passed over."""
+    try:
+        names = sorted(os.listdir(path))
+    except OSError as e:
+        raise files.trouble(path, e)
+    taken, passed = [], []
+    for name in names:
+        whole = os.path.join(path, name)
+        wanted = name.lower().endswith(ENDINGS) and (os.path.isfile(whole) or not os.path.exists(whole))
+        (taken if wanted else passed).append(whole)
+    return taken, passed
+
+
+def gather(words):
+    """The images that the words name, what is passed over, and whether each word could be read."""
+    taken, passed, good = [], [], True
+    for word in words:
+        try:
+            more, over = folder(word) if os.path.isdir(word) else ([word], [])
+            taken, passed = taken + more, passed + over
+        except Trouble as e:
+            complain(e)
+            good = False
+    return taken, passed, good
+
+
+def badness(answer):
+    """The worst first: an image that is refused, a table that does not pass, one that does."""
+    if answer.word == "image":
+        return 0
+    return 1 if answer.number else 2
+
+
+def totals(answers):
+    """Each kind of answer with its count, worst first, and of those equally bad the most frequent."""
+    kinds = Counter(Answer(a.word, a.number, None) for a in answers)
+    return sorted(kinds.items(), key=lambda kind: (badness(kind[0]), -kind[1], kind[0].number))
+
+
+def summary(answers, unread):
+    classes = Counter(badness(a) for a in answers)
+    parts = [f"{classes[0]} refused", f"{classes[1]} that {'does' if classes[1] == 1 else 'do'} not pass", f"{classes[2]} that {'passes' if classes[2] == 1 else 'pass'}"]
+    if unread:
+        parts.append(f"and {counted(unread, 'file')} could not be read")
+    return f"{counted(len(answers), 'image')}: {', '.join(parts)}"
+
+
+def passed_over(paths):
+    """The names passed over; of more than a few with one ending, the ending and their count."""
+    names = [os.path.basename(p) + ("/" if os.path.isdir(p) else "") for p in paths]
+    endings = Counter(os.path.splitext(n)[1] for n in names)
+    many = [e for e, n in endings.items() if e and n > MANY]
+    return [n for n in names if os.path.splitext(n)[1] not in many] + [f"{endings[e]} named *{e}" for e in many]
+
+
+def as_text(found, passed, unread, shelf):
+    """The rows, the totals, and what was passed over. The names of one folder's images stand without it."""
+    for row in columns([(files.shown(os.path.relpath(p, shelf) if shelf else p), " ".join(map(str, a)), meaning(a)) for p, a in found]):
+        yield row
+    answers = [a for _, a in found]
+    if answers:
+        yield ""
+    yield summary(answers, unread)
+    yield from columns([(str(n), f"{a.word} {a.number}", meaning(a)) for a, n in totals(answers)], right=(0,))
+    if passed:
+        yield ""
+        yield f"passed over, as no file ending in {' or '.join(ENDINGS)}: " + files.shown(", ".join(passed_over(passed)))
+
+
+def as_json(found, passed):
+    for path, a in found:
+        named = {"place" if a.word == "image" else "task": a.place}
+        yield {"file": path, "answer": a.word, "number": a.number, **named, "meaning": meaning(a)}
+    for a, n in totals(a for _, a in found):
+        yield {"total": n, "answer": a.word, "number": a.number, "meaning": meaning(a)}
+    for path in passed:
+        yield {"passed over": path}
+
+
+def inventory(found, words):
+    library.proved()
+    taken, passed, good = gather(words)
+    read = list(files.images(taken))
+    answers = [(path, answer(library.judge(image))) for path, image in read if image is not None]
+    if "--json" in found:
+        for row in as_json(answers, passed):
+            say(json.dumps(row))
+    else:
+        shelf = words[0] if len(words) == 1 and os.path.isdir(words[0]) else None
+        for line in as_text(answers, passed, len(read) - len(answers), shelf):
+            say(line)
+    if not good or len(answers) < len(read):
+        return 1
+    return 3 if "--strict" in found and any(badness(a) < 2 for _, a in answers) else 0
