@@ -140,7 +140,9 @@ def options(command, words):
         word = left.pop(0)
         if word == "--":
             return found, rest + left
-        if not word.startswith("--"):
+        if word in HELP[1:]:
+            found[word] = True
+        elif not word.startswith("--"):
             rest.append(word)
         elif word not in command.options:
             raise Misuse(f"there is no option {word} here", command)
@@ -170,9 +172,9 @@ def run(words):
     if name not in NAMES:
         raise Misuse(f"'{name}' is none of {', '.join(NAMES)}")
     command = NAMES[name]
-    if any(w in HELP[1:] for w in words):
-        return show_help([name])
     found, rest = options(command, words)
+    if any(word in found for word in HELP):
+        return show_help([name])
     least, most, wanted = command.words
     if not least <= len(rest) <= most:
         raise Misuse(f"{name} wants {wanted}", command)

@@ -35,7 +35,9 @@ def judged(table):
     elif table.judged.verdict:
         yield "It names no task."
     yield f"The image is loaded: {table.held()}."
-    yield f"The figures are {figures(table)}{': ' if table.board else ''}{', '.join(f'{k} {v:,}' for k, v in (table.board or {}).items())}."
+    yield f"The figures are {figures(table)}{':' if table.board else '.'}"
+    if table.board:
+        yield "    " + ", ".join(f"{name} {value:,}" for name, value in table.board.items())
     yield ""
     yield from task_rows(table)
     yield ""

@@ -8,10 +8,10 @@ from command.output import counted
 from command.records import QUEUES
 from command.tables import against_one, figures, meaning, percent, share
 
-WIDTH, MARGIN, LINE, BAR = 980, 24, 21, 12
-LEFT, ONE = 200, 400  # where bars start, and how long a whole period is
-OVER = Fraction(107, 100)  # where a longer bar is cut
-RIGHT = {"cost": 700, "charge": 778, "load": 868, "load/period": WIDTH - MARGIN}
+WIDTH, MARGIN, LINE, BAR = 1096, 30, 21, 12
+LEFT, ONE = 206, 400  # where bars start, and how long a whole period is
+OVER, SEEN = Fraction(107, 100), Fraction(2, ONE)  # where a longer bar is cut; the least that is seen
+RIGHT = {"cost": 746, "charge": 840, "load": 950, "load/period": WIDTH - MARGIN}
 HATCH = (
     '<defs><pattern id="charge" width="5" height="5" patternUnits="userSpaceOnUse" patternTransform="rotate(45)">'
     '<rect width="5" height="5" fill="white"/><rect width="2" height="5" fill="black"/></pattern></defs>'
@@ -56,14 +56,23 @@ def place(value):
     return str(whole) if not rest else f"{whole}.{rest:02}".rstrip("0")
 
 
+def drawn(part):
+    """How long a part is drawn: what is not 0 is seen, so is that something is less or more than 1, and what is too long is cut."""
+    if part > 1:
+        return min(max(part, 1 + 3 * SEEN), OVER)
+    return min(max(part, SEEN), 1 - SEEN) if 0 < part < 1 else part
+
+
 def bar(sheet, cost, charge, marked):
     """Cost and charge as parts of 1. A bar that is longer than there is room for is cut, with a torn end."""
-    end = min(cost + charge, OVER)
-    black = min(cost, end)
+    black, end = drawn(cost), drawn(cost + charge)
     sheet.box(LEFT, black * ONE, "black")
     sheet.box(LEFT + black * ONE, (end - black) * ONE, "url(#charge)")
     sheet.frame(LEFT, end * ONE)
     sheet.frame(LEFT, ONE, 2.5 if marked else 1)
+    if cost + charge > 1:
+        upright(sheet, sheet.y - BAR // 2, sheet.y + BAR // 2, "white", 4)
+        upright(sheet, sheet.y - BAR // 2, sheet.y + BAR // 2)
     if cost + charge > OVER:
         x, top = LEFT + OVER * ONE, sheet.y - BAR // 2 - 1
         zigzag = f"M{place(x - 2)} {top} l4 4 l-4 3 l4 3 l-4 4"
@@ -71,8 +80,13 @@ def bar(sheet, cost, charge, marked):
         sheet.path(zigzag)
 
 
+def upright(sheet, top, bottom, colour="black", thick=2):
+    """The line at 1; on black it stands on a white one."""
+    sheet.parts.append(f'<path d="M{LEFT + ONE} {top} V{bottom}" stroke="{colour}" stroke-width="{thick}"/>')
+
+
 def pointer(sheet):
-    sheet.path(f"M{MARGIN - 12} {sheet.y - 6} l11 6 l-11 6 z", "black")
+    sheet.path(f"M{MARGIN - 18} {sheet.y - 6} l11 6 l-11 6 z", "black")
 
 
 def heading(sheet, name, table):
@@ -84,8 +98,8 @@ def heading(sheet, name, table):
     sheet.down()
     sheet.text(MARGIN, f"{table.held()}; the figures are {figures(table)}")
     sheet.down(1.4)
-    sheet.text(MARGIN, "a bar is a task's period; times in ticks of 10 ns:")
-    for x, fill, what in ((400, "black", "cost"), (480, "url(#charge)", "charge"), (570, "white", "free")):
+    sheet.text(MARGIN, "a bar is a task's period; times in ticks of 10 ns")
+    for x, fill, what in ((400, "black", "cost"), (480, "url(#charge)", "charge"), (576, "white", "free")):
         sheet.box(x, 24, fill)
         sheet.frame(x, 24)
         sheet.text(x + 30, what)
@@ -135,9 +149,9 @@ def sums(sheet, table):
         if marked:
             pointer(sheet)
         sheet.text(MARGIN, name, bold=marked)
-        bar(sheet, sum((Fraction(t.cost, t.period) for t in tasks), Fraction(0)), sum((Fraction(t.charge, t.period) for t in tasks), Fraction(0)), marked)
+        bar(sheet, sum(Fraction(t.cost, t.period) for t in tasks), sum(Fraction(t.charge, t.period) for t in tasks), marked)
         sheet.text(WIDTH - MARGIN, against_one(share(tasks)), end=True, bold=marked)
-    sheet.path(f"M{LEFT + ONE} {top} V{sheet.y + 12}", thick=2)
+    upright(sheet, top, sheet.y + 12)
 
 
 def draw(name, table):

@@ -41,23 +41,26 @@ def script_of(path, asked):
     return calls, script
 
 
-def standing(number, played):
+def standing(played):
     if played.asked:
-        return f"task {number}: {played.asked}, {MEANING[played.asked]}"
-    return f"task {number}: {QUEUES[played.queue]}, deadline {played.deadline:,}, position {played.position}"
+        return f"{played.asked} {MEANING[played.asked]}"
+    return f"{QUEUES[played.queue]}, deadline {played.deadline:,}, position {played.position}"
+
+
+def rows(calls, played, asked):
+    """A row for each call: the call, its answer and what that means, who runs then, and the standing that was asked for."""
+    yield ("call", "answer", "runs") + ((f"standing of {asked}",) if asked is not None else ())
+    for call, p in zip(calls, played):
+        row = (call, f"{p.answer} {MEANING[p.answer]}", f"task {p.running}" if p.running else "nobody")
+        yield row + ((standing(p),) if asked is not None else ())
 
 
 def play(found, words):
-    """A row for each call: the call, its answer and what that means, who runs then, and the standing that was asked for."""
     asked = found.get("--standing")
     if asked is not None and asked > TASK[1]:
         raise Trouble(f"--standing {asked}: a task's number is at most {TASK[1]:,}")
     table = tables.accepted(words[0])
     calls, script = script_of(words[1], asked or 0)
-    rows = [("call", "answer", "runs") + (("standing",) if asked is not None else ())]
-    for call, p in zip(calls, library.play(table.image, script)):
-        row = (call, f"{p.answer} {MEANING[p.answer]}", f"task {p.running}" if p.running else "nobody")
-        rows.append(row + ((standing(asked, p),) if asked is not None else ()))
-    for line in columns(rows):
+    for line in columns(list(rows(calls, library.play(table.image, script), asked))):
         say(line)
     return 0

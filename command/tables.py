@@ -49,7 +49,7 @@ SUMS = (("DP1", ("DP1",)), ("DP1 and DP2", ("DP1", "DP2")), ("all tasks", ("DP1"
 
 
 def share(tasks):
-    return sum((t.share for t in tasks), Fraction(0))
+    return sum(t.share for t in tasks)
 
 
 def answer(judged):
