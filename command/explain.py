@@ -38,6 +38,7 @@ def judged(table):
     yield f"The figures are {figures(table)}{':' if table.board else '.'}"
     if table.board:
         yield "    " + ", ".join(f"{name} {value:,}" for name, value in table.board.items())
+    yield "Times are in ticks of 10 ns. Load is cost plus charge; load/period is a task's share of the processor."
     yield ""
     yield from task_rows(table)
     yield ""
@@ -53,5 +54,5 @@ def task_rows(table):
 
 
 def sum_rows(table):
-    rows = [(name, counted(len(tasks), "task"), against_one(share(tasks))) for name, tasks in table.sums()]
+    rows = [("sum of", "tasks", "load/period")] + [(name, str(len(tasks)), against_one(share(tasks))) for name, tasks in table.sums()]
     return columns(rows, right=(1,))
