@@ -69,8 +69,8 @@ def passed_over(paths):
 
 def as_text(found, passed, unread, shelf):
     """The rows, the totals, and what was passed over. The names of one folder's images stand without it."""
-    for row in columns([(files.shown(os.path.relpath(p, shelf) if shelf else p), " ".join(map(str, a)), meaning(a)) for p, a in found]):
-        yield row
+    names = [files.shown(os.path.relpath(path, shelf) if shelf else path) for path, _ in found]
+    yield from columns([(name, " ".join(map(str, a)), meaning(a)) for name, (_, a) in zip(names, found)])
     answers = [a for _, a in found]
     if answers:
         yield ""
@@ -94,15 +94,15 @@ def as_json(found, passed):
 def inventory(found, words):
     library.proved()
     taken, passed, good = gather(words)
-    read = list(files.images(taken))
-    answers = [(path, answer(library.judge(image))) for path, image in read if image is not None]
+    read = [(path, None if image is None else answer(library.judge(image))) for path, image in files.images(taken)]
+    answers = [(path, a) for path, a in read if a]
     if "--json" in found:
-        for row in as_json(answers, passed):
-            say(json.dumps(row))
+        lines = (json.dumps(row) for row in as_json(answers, passed))
     else:
         shelf = words[0] if len(words) == 1 and os.path.isdir(words[0]) else None
-        for line in as_text(answers, passed, len(read) - len(answers), shelf):
-            say(line)
+        lines = as_text(answers, passed, len(read) - len(answers), shelf)
+    for line in lines:
+        say(line)
     if not good or len(answers) < len(read):
         return 1
     return 3 if "--strict" in found and any(badness(a) < 2 for _, a in answers) else 0
