@@ -10,6 +10,7 @@ RACK = os.path.join(ROOT, "rack")
 EXAMPLES = os.path.join(ROOT, "examples")
 SHELF = os.path.join(EXAMPLES, "inventory")
 EXPECTED = os.path.join(os.path.dirname(os.path.realpath(__file__)), "expected")
+PLAIN = {name: value for name, value in os.environ.items() if not name.startswith("PYTHON")}  # nothing that alters how Python prints
 GOOD, REFUSED = os.path.join(SHELF, "stale-board-1.img"), os.path.join(SHELF, "second-table-03.img")
 
 
@@ -35,7 +36,8 @@ class Bench(unittest.TestCase):
 
     def rack(self, *words, status=0, command=(RACK,), **how):
         """Calls ./rack and asks for its exit status; it never ends with a traceback."""
-        how = {"cwd": self.folder, "stdin": subprocess.DEVNULL, "stdout": subprocess.PIPE, "stderr": subprocess.PIPE, "timeout": 300, **how}
+        pipes = {"stdin": subprocess.DEVNULL, "stdout": subprocess.PIPE, "stderr": subprocess.PIPE}
+        how = {"cwd": self.folder, "env": PLAIN, "timeout": 300, **pipes, **how}
         done = subprocess.run([*command, *words], **how)
         done.out, done.err = ((text or b"").decode("utf-8", "surrogateescape") for text in (done.stdout, done.stderr))
         self.assertNotIn("Traceback", done.err)

@@ -7,7 +7,7 @@ import subprocess
 import time
 
 from command import build
-from command.tests.bench import GOOD, ROOT, Bench, contents
+from command.tests.bench import GOOD, PLAIN, ROOT, Bench, contents
 
 CRATES = "# a line for each crate\none:\ntwo: one\nother:\nrack: two\nrackcheck: io two\n"
 RT = """\
@@ -53,7 +53,7 @@ class Build(Bench):
         shutil.copy(self.checker, os.path.join(self.tools, "rackcheck"))
         shutil.copy(self.archive, self.tools)
         os.chmod(self.put("tools/rt", RT.encode()), 0o755)
-        self.environment = {**os.environ, "PATH": self.tools + ":" + os.environ["PATH"]}
+        self.environment = {**PLAIN, "PATH": self.tools + ":" + os.environ["PATH"]}
         past = time.time() - 100
         for path in (self.source, os.path.join(self.tree, "crates.txt")):
             os.utime(path, (past, past))
@@ -144,7 +144,7 @@ class Build(Bench):
         os.unlink(self.path("tools/cc"))
         for name in ("python3", "sh", "env", "dirname", "basename", "cat", "sleep", "mkdir", "cp"):
             os.symlink(shutil.which(name), os.path.join(self.tools, name))
-        done = self.call("inventory", GOOD, status=1, env={**os.environ, "PATH": self.tools})
+        done = self.call("inventory", GOOD, status=1, env={**PLAIN, "PATH": self.tools})
         self.assertIn("there is no C compiler 'cc' on the PATH", done.err)
         self.assertEqual(self.made(), [])
 
@@ -152,7 +152,7 @@ class Build(Bench):
         os.unlink(self.path("tools/rt"))
         for name in ("python3", "env"):
             os.symlink(shutil.which(name), os.path.join(self.tools, name))
-        done = self.call("check", GOOD, status=1, env={**os.environ, "PATH": self.tools})
+        done = self.call("check", GOOD, status=1, env={**PLAIN, "PATH": self.tools})
         self.assert_told(done, "the Rattle toolchain's command 'rt' is not on the PATH")
 
     def test_a_program_that_was_removed(self):

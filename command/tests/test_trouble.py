@@ -3,7 +3,7 @@ import os
 import resource
 import sys
 
-from command.tests.bench import GOOD, RACK, REFUSED, SHELF, Bench, contents
+from command.tests.bench import GOOD, PLAIN, RACK, REFUSED, SHELF, Bench, contents
 
 # each command that reads a file, with the file in the place of {}
 READERS = (
@@ -75,6 +75,7 @@ class Reading(Bench):
             self.rack(command, "--strict", GOOD)
             self.rack(command, "--strict", GOOD, REFUSED, status=3)
             self.rack(command, "--strict", REFUSED, "none.img", status=1)
+            self.rack(command, "--strict", "none.img", REFUSED, status=1)
 
     def test_empty_and_long(self):
         self.put("empty.img")
@@ -94,9 +95,9 @@ class Reading(Bench):
             with open(os.path.join(self.folder.encode(), name), "wb") as f:
                 f.write(contents(GOOD))
         for locale in ("C", "C.UTF-8"):
-            done = self.rack("inventory", self.folder, env={**os.environ, "LC_ALL": locale, "PYTHONIOENCODING": "ascii"})
+            done = self.rack("inventory", self.folder, env={**PLAIN, "LC_ALL": locale, "PYTHONIOENCODING": "ascii"})
             self.assertEqual([line.split("  ")[0] for line in done.out.splitlines()[:3]], ["caf\udce9.img", "größe.img", "two\\nlines.img"])
-            self.rack("inventory", "--json", self.folder, env={**os.environ, "LC_ALL": locale})
+            self.rack("inventory", "--json", self.folder, env={**PLAIN, "LC_ALL": locale})
         self.rack("picture", b"caf\xe9.img", "out.svg")
 
     def test_a_script_or_table_that_is_no_text(self):
@@ -204,6 +205,7 @@ class Saying(Bench):
     def test_full_disk(self):
         with open("/dev/full", "wb") as full:
             self.each_call("standard output: No space left on device", stdout=full)
+            self.each_call("standard output: No space left on device", stdout=full, env={**PLAIN, "PYTHONUNBUFFERED": "1"})
 
     def test_closed_pipe(self):
         read, write = os.pipe()
