@@ -145,7 +145,7 @@ class Progress:
         self.ticker = threading.Thread(target=self.tick, daemon=True)
 
     def __enter__(self):
-        self.at = f"{self.what}: 0 of {self.count} crates"
+        self.at = f"{self.what}: 0 of {self.count} crates, some minutes the first time"
         if self.terminal:
             self.ticker.start()
         else:

@@ -32,7 +32,7 @@ A row for each image: its name, the answer, what it means. Then the totals for e
 then those that do; the most frequent first. Of a folder the files that end in .img or .bin are taken, in name order; what is passed over is named (more
 than three names of one ending by their count). To take other files, name them: ./rack inventory FOLDER/*
 
-  --json      the same for programs, an object a line: "file" for each image, "total" for each kind of answer, "passed over" for the rest
+  --json      the same for programs, an object a line: "file" for each image, "total" for each kind of answer, then "not read" and "passed over"
   --strict    exit with 3 where an image is refused or its verdict is not 0""",
         {"--json": None, "--strict": None},
         (1, ANY, "a folder or an image"),
@@ -140,19 +140,24 @@ def options(command, words):
         word = left.pop(0)
         if word == "--":
             return found, rest + left
-        if word in HELP[1:]:
-            found[word] = True
-        elif not word.startswith("--"):
-            rest.append(word)
-        elif word not in command.options:
-            raise Misuse(f"there is no option {word} here", command)
-        elif command.options[word] is None:
-            found[word] = True
-        elif left and left[0].isascii() and left[0].isdigit() and len(left[0]) < 20:
-            found[word] = int(left.pop(0))
+        if word.startswith("--") or word in HELP[1:]:
+            found[word] = value(command, word, left)
         else:
-            raise Misuse(f"{word} wants {command.options[word]}", command)
+            rest.append(word)
     return found, rest
+
+
+def value(command, word, left):
+    """What an option has: a number, taken from the words that are left, or just that it is there."""
+    if word in HELP:
+        return True
+    if word not in command.options:
+        raise Misuse(f"there is no option {word} here", command)
+    if command.options[word] is None:
+        return True
+    if left and left[0].isascii() and left[0].isdigit() and len(left[0]) < 20:
+        return int(left.pop(0))
+    raise Misuse(f"{word} wants {command.options[word]}", command)
 
 
 def show_help(words):

@@ -24,7 +24,7 @@ def refused(table):
         record = records(image)[place]
         yield f"It names record {place}, counted from 0, at bytes {place * RECORD} to {place * RECORD + RECORD - 1}: {in_words(record)}."
         for at in range(0, RECORD, RECORD // 2):
-            yield "    " + record[at : at + RECORD // 2].hex(" ")
+            yield "    " + " ".join(f"{byte:02x}" for byte in record[at : at + RECORD // 2])
     yield "The image is refused as a whole: no task of it is judged."
 
 

@@ -26,16 +26,16 @@ def folder(path):
 
 
 def gather(words):
-    """The images that the words name, what is passed over, and whether each word could be read."""
-    taken, passed, good = [], [], True
+    """The images that the words name, what is passed over, and the folders that cannot be read, which is told."""
+    taken, passed, unread = [], [], []
     for word in words:
         try:
             more, over = folder(word) if os.path.isdir(word) else ([word], [])
             taken, passed = taken + more, passed + over
         except Trouble as e:
             complain(e)
-            good = False
-    return taken, passed, good
+            unread.append(word)
+    return taken, passed, unread
 
 
 def badness(answer):
@@ -52,11 +52,10 @@ def totals(answers):
 
 
 def summary(answers, unread):
-    classes = Counter(badness(a) for a in answers)
-    parts = [f"{classes[0]} refused", f"{classes[1]} that {'does' if classes[1] == 1 else 'do'} not pass", f"{classes[2]} that {'passes' if classes[2] == 1 else 'pass'}"]
-    if unread:
-        parts.append(f"and {counted(unread, 'file')} could not be read")
-    return f"{counted(len(answers), 'image')}: {', '.join(parts)}"
+    refused, failing, passing = (sum(badness(a) == n for a in answers) for n in range(3))
+    does, passes = "does" if failing == 1 else "do", "passes" if passing == 1 else "pass"
+    tail = f", and {unread} that could not be read" if unread else ""
+    return f"{counted(len(answers), 'image')}: {refused} refused, {failing} that {does} not pass, {passing} that {passes}{tail}"
 
 
 def passed_over(paths):
@@ -74,35 +73,38 @@ def as_text(found, passed, unread, shelf):
     answers = [a for _, a in found]
     if answers:
         yield ""
-    yield summary(answers, unread)
+    yield summary(answers, len(unread))
     yield from columns([(str(n), f"{a.word} {a.number}", meaning(a)) for a, n in totals(answers)], right=(0,))
     if passed:
         yield ""
         yield f"passed over, as no file ending in {' or '.join(ENDINGS)}: " + files.shown(", ".join(passed_over(passed)))
 
 
-def as_json(found, passed):
+def as_json(found, passed, unread):
     for path, a in found:
         named = {"place" if a.word == "image" else "task": a.place}
         yield {"file": path, "answer": a.word, "number": a.number, **named, "meaning": meaning(a)}
     for a, n in totals(a for _, a in found):
         yield {"total": n, "answer": a.word, "number": a.number, "meaning": meaning(a)}
+    for path in unread:
+        yield {"not read": path}
     for path in passed:
         yield {"passed over": path}
 
 
 def inventory(found, words):
     library.proved()
-    taken, passed, good = gather(words)
+    taken, passed, unread = gather(words)
     read = [(path, None if image is None else answer(library.judge(image))) for path, image in files.images(taken)]
     answers = [(path, a) for path, a in read if a]
+    unread += [path for path, a in read if not a]
     if "--json" in found:
-        lines = (json.dumps(row) for row in as_json(answers, passed))
+        lines = (json.dumps(row) for row in as_json(answers, passed, unread))
     else:
         shelf = words[0] if len(words) == 1 and os.path.isdir(words[0]) else None
-        lines = as_text(answers, passed, len(read) - len(answers), shelf)
+        lines = as_text(answers, passed, unread, shelf)
     for line in lines:
         say(line)
-    if not good or len(answers) < len(read):
+    if unread:
         return 1
     return 3 if "--strict" in found and any(badness(a) < 2 for _, a in answers) else 0

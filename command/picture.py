@@ -74,10 +74,13 @@ def bar(sheet, cost, charge, marked):
         upright(sheet, sheet.y - BAR // 2, sheet.y + BAR // 2, "white", 4)
         upright(sheet, sheet.y - BAR // 2, sheet.y + BAR // 2)
     if cost + charge > OVER:
-        x, top = LEFT + OVER * ONE, sheet.y - BAR // 2 - 1
-        zigzag = f"M{place(x - 2)} {top} l4 4 l-4 3 l4 3 l-4 4"
-        sheet.path(zigzag + " h9 v-14 z", "white", 0)
-        sheet.path(zigzag)
+        torn(sheet, LEFT + OVER * ONE)
+
+
+def torn(sheet, x):
+    zigzag = f"M{place(x - 2)} {sheet.y - BAR // 2 - 1} l4 4 l-4 3 l4 3 l-4 4"
+    sheet.path(zigzag + " h9 v-14 z", "white", 0)
+    sheet.path(zigzag)
 
 
 def upright(sheet, top, bottom, colour="black", thick=2):
@@ -99,10 +102,11 @@ def heading(sheet, name, table):
     sheet.text(MARGIN, f"{table.held()}; the figures are {figures(table)}")
     sheet.down(1.4)
     sheet.text(MARGIN, "a bar is a task's period; times in ticks of 10 ns")
-    for x, fill, what in ((400, "black", "cost"), (480, "url(#charge)", "charge"), (576, "white", "free")):
+    for x, fill, what in ((400, "black", "cost"), (480, "url(#charge)", "charge"), (576, "white", "free"), (650, "white", "longer than drawn")):
         sheet.box(x, 24, fill)
         sheet.frame(x, 24)
-        sheet.text(x + 30, what)
+        sheet.text(x + 32, what)
+    torn(sheet, 674)
     sheet.down(1.6)
 
 

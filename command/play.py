@@ -3,7 +3,7 @@ from command import files, library, tables
 from command.numbers import MEANING
 from command.output import Trouble, columns, say
 from command.records import QUEUES
-from command.texts import whole
+from command.texts import one_of, whole
 
 TASK, SEMAPHORE, TIME = ("task", 65_535), ("semaphore", 65_535), ("time", 2**64 - 1)
 CALLS = {
@@ -19,9 +19,7 @@ CALLS = {
 
 def record_of(words, asked):
     name, words = words[0], words[1:]
-    if name not in CALLS:
-        raise Trouble(f"'{name}' is none of {', '.join(CALLS)}")
-    code, wanted = CALLS[name]
+    code, wanted = one_of(name, CALLS)
     if len(words) != len(wanted):
         raise Trouble(f"{name} takes {' and '.join('a ' + what for what, _ in wanted) or 'nothing more'}")
     values = [whole(word, what, 0, most) for word, (what, most) in zip(words, wanted)]

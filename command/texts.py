@@ -16,16 +16,20 @@ def whole(word, what, least, most):
     return value
 
 
+def one_of(word, known, what=""):
+    if word not in known:
+        raise Trouble(f"{what}'{word}' is none of {', '.join(known)}")
+    return known[word]
+
+
 def read_fields(kind, words):
     """The fields of a record from the words of a line."""
     values = {}
     for field, word in zip(kind.fields, words):
         if field.name == "queue":
-            if word not in CODES:
-                raise Trouble(f"queue '{word}' is none of {', '.join(CODES)}")
-            values["queue"] = CODES[word]
+            values["queue"] = one_of(word, CODES, "queue ")
         else:
-            most = values.get(field.most, field.most)
+            most = values.get(field.most, field.most)  # a number, or the name of an earlier field
             values[field.name] = whole(word, "figure" if kind.name == "board" else field.name, field.least, most)
     return values
 
@@ -67,9 +71,7 @@ LINES = {
 def record_of(words, seen):
     """The record of a line; `seen` holds those before it."""
     name, words = words[0], words[1:]
-    if name not in LINES:
-        raise Trouble(f"'{name}' is none of {', '.join(LINES)}")
-    kind, (fits, shape) = KINDS[name], LINES[name]
+    (fits, shape), kind = one_of(name, LINES), KINDS[name]
     if len(words) != len(kind.fields):
         raise Trouble(shape.format(len(words)))
     values = read_fields(kind, words)

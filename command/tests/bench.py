@@ -5,6 +5,8 @@ import subprocess
 import tempfile
 import unittest
 
+from command import build
+
 ROOT = os.path.dirname(os.path.dirname(os.path.dirname(os.path.realpath(__file__))))
 RACK = os.path.join(ROOT, "rack")
 EXAMPLES = os.path.join(ROOT, "examples")
@@ -21,6 +23,11 @@ def contents(path):
 
 class Bench(unittest.TestCase):
     maxDiff = None
+
+    @classmethod
+    def setUpClass(cls):
+        """What is not built yet is built before any call, which then says nothing of it."""
+        cls.checker, cls.library = build.checker(), build.shared_object()
 
     def setUp(self):
         self.folder = tempfile.mkdtemp()

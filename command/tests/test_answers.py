@@ -6,6 +6,7 @@ import re
 import xml.etree.ElementTree
 from fractions import Fraction
 
+from command.library import JUDGE_BYTES
 from command.numbers import MEANING
 from command.tests.bench import EXAMPLES, EXPECTED, GOOD, REFUSED, ROOT, SHELF, Bench, contents
 
@@ -21,6 +22,12 @@ class Numbers(Bench):
     def test_each_number_of_the_proved_code_has_a_meaning(self):
         text = contents(os.path.join(ROOT, "crates", "table", "src", "numbers.rt")).decode("utf-8")
         self.assertEqual(set(map(int, re.findall(r"pub const \w+: u8 = (\d+);", text))), set(MEANING))
+
+
+class Boundary(Bench):
+    def test_the_length_of_a_judgement(self):
+        header = contents(os.path.join(ROOT, "include", "rack.h")).decode("utf-8")
+        self.assertIn(f"#define RACK_JUDGE_BYTES {JUDGE_BYTES}\n", header)
 
 
 class Explain(Bench):

@@ -6,7 +6,6 @@ import shutil
 import subprocess
 import time
 
-from command import build
 from command.tests.bench import GOOD, PLAIN, ROOT, Bench, contents
 
 CRATES = "# a line for each crate\none:\ntwo: one\nother:\nrack: two\nrackcheck: io two\n"
@@ -35,11 +34,6 @@ echo "rt: $last"
 
 
 class Build(Bench):
-    @classmethod
-    def setUpClass(cls):
-        cls.checker, _ = build.checker(), build.shared_object()
-        cls.archive = os.path.join(ROOT, "target", "staticlib", "librack.a")
-
     def setUp(self):
         """A tree with the command, two small crates, and tools of its own."""
         super().setUp()
@@ -51,7 +45,7 @@ class Build(Bench):
         self.source = self.put("tree/crates/one/src/lib.rt")
         self.put("tree/crates.txt", CRATES.encode())
         shutil.copy(self.checker, os.path.join(self.tools, "rackcheck"))
-        shutil.copy(self.archive, self.tools)
+        shutil.copy(os.path.join(ROOT, "target", "staticlib", "librack.a"), self.tools)
         os.chmod(self.put("tools/rt", RT.encode()), 0o755)
         self.environment = {**PLAIN, "PATH": self.tools + ":" + os.environ["PATH"]}
         past = time.time() - 100

@@ -35,7 +35,6 @@ class Readme(Bench):
         return subprocess.run(command, shell=True, cwd=self.folder, **how).stdout.decode("utf-8")
 
     def test_each_example(self):
-        self.rack("check", "--explain", os.path.join(EXAMPLES, "inventory", "stale-board-1.img"))  # builds what is not built yet
         for command, printed in examples():
             with self.subTest(command):
                 self.assertEqual(self.shell(command), printed)

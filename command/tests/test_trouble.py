@@ -67,7 +67,7 @@ class Reading(Bench):
         done = self.rack("inventory", "none.img", GOOD, "link.img", REFUSED, status=1)
         self.assertIn(f"{GOOD}    verdict 0 0  done: the table passes\n", done.out)
         self.assertIn(f"{REFUSED}  image 3 6    used record after an erased one\n", done.out)
-        self.assertIn("2 images: 1 refused, 0 that do not pass, 1 that passes, and 2 files could not be read\n", done.out)
+        self.assertIn("2 images: 1 refused, 0 that do not pass, 1 that passes, and 2 that could not be read\n", done.out)
         self.assertEqual(len(done.err.splitlines()), 2)
 
     def test_trouble_counts_before_strict(self):
