@@ -110,8 +110,8 @@ def run(what, words, lock):
     with progress:
         for raw in made.stdout:
             line = raw.decode("utf-8", "replace").rstrip("\n")
-            said.append(line)
-            progress.follow(line)
+            if not progress.follow(line):
+                said.append(line)
     if made.wait() != 0:
         raise Trouble(f"{what} could not be built:\n" + last_lines(said))
 
@@ -167,15 +167,16 @@ class Progress:
         murmur(f"rack: {text}\n")
 
     def follow(self, line):
-        """Takes a line of the toolchain's; that of a crate which is proved is a step."""
+        """Takes a line of the toolchain's, and gives whether it tells of a crate that is proved, which is a step."""
         found = PROVED.match(line)
         crate = found and (found.group(1) or found.group(2))
         if crate not in self.left:
-            return
+            return False
         self.left.discard(crate)
         self.at = f"{self.what}: {self.count - len(self.left)} of {self.count} crates, {crate} proved"
         if not self.terminal:
             self.tell(f"{self.at}, {self.seconds()} s so far")
+        return True
 
     def tick(self):
         """Renews the line, cut to the terminal's width."""

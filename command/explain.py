@@ -2,13 +2,12 @@
 from command.numbers import MEANING
 from command.output import columns, counted
 from command.records import MOST, RECORD, in_words, records
-from command.tables import Table, against_one, figures, percent, share
+from command.tables import Table, against_one, beyond, figures, percent, share
 
 
 def lines(image):
     table = Table(image)
-    number = table.answer.number
-    yield f'{number} means "{MEANING[number]}"{"" if number else ": the table passes"}.'
+    yield f'{table.answer.number} means "{MEANING[table.answer.number]}"{beyond(table.answer)}.'
     yield from refused(table) if table.judged.load else judged(table)
 
 
@@ -45,14 +44,20 @@ def judged(table):
     yield from sum_rows(table)
 
 
+def mark(table, marked):
+    return f"<- {MEANING[table.judged.verdict]}" if marked else ""
+
+
 def task_rows(table):
     rows = [("task", "queue", "period", "cost", "charge", "load", "load/period", "")]
     for t in table.tasks:
-        mark = f"<- {MEANING[table.judged.verdict]}" if t.number == table.judged.task else ""
-        rows.append((str(t.number), t.queue, *(f"{v:,}" for v in (t.period, t.cost, t.charge, t.load)), percent(t.share), mark))
+        ticks = (f"{value:,}" for value in (t.period, t.cost, t.charge, t.load))
+        rows.append((str(t.number), t.queue, *ticks, percent(t.share), mark(table, t.number == table.judged.task)))
     return columns(rows, right=(0, 2, 3, 4, 5, 6))
 
 
 def sum_rows(table):
-    rows = [("sum of", "tasks", "load/period")] + [(name, str(len(tasks)), against_one(share(tasks))) for name, tasks in table.sums()]
+    rows = [("sum of", "tasks", "load/period", "")]
+    for name, tasks, over_full in table.sums():
+        rows.append((name, str(len(tasks)), against_one(share(tasks)), mark(table, over_full)))
     return columns(rows, right=(1,))

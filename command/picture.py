@@ -146,10 +146,8 @@ def sums(sheet, table):
     sheet.text(MARGIN, "sums of load/period", bold=True)
     sheet.text(LEFT + ONE - 4, "1", bold=True)
     top = sheet.y + 8
-    over_full = {11: "DP1", 12: "DP1 and DP2"}.get(table.judged.verdict)
-    for name, tasks in table.sums():
+    for name, tasks, marked in table.sums():
         sheet.down()
-        marked = name == over_full
         if marked:
             pointer(sheet)
         sheet.text(MARGIN, name, bold=marked)

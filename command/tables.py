@@ -40,12 +40,13 @@ class Table:
         return ", ".join(counted(n, what) for n, what in parts)
 
     def sums(self):
-        """The sums of load/period that tests 11 and 12 compare with 1, and that of all tasks."""
-        for name, queues in SUMS:
-            yield name, [t for t in self.tasks if t.queue in queues]
+        """The sums of load/period: a name, the tasks, and whether the verdict is that their sum is over full."""
+        for name, queues, over_full in SUMS:
+            yield name, [t for t in self.tasks if t.queue in queues], self.judged.verdict == over_full
 
 
-SUMS = (("DP1", ("DP1",)), ("DP1 and DP2", ("DP1", "DP2")), ("all tasks", ("DP1", "DP2", "FP")))
+# what is summed, over which queues, and the number of the test that compares it with 1
+SUMS = (("DP1", ("DP1",), 11), ("DP1 and DP2", ("DP1", "DP2"), 12), ("all tasks", ("DP1", "DP2", "FP"), None))
 
 
 def share(tasks):
@@ -59,9 +60,13 @@ def answer(judged):
     return Answer("verdict", judged.verdict, judged.task)
 
 
+def beyond(answer):
+    """What 'done' says of a table."""
+    return "" if answer.number else ": the table passes"
+
+
 def meaning(answer):
-    """01's words; behind 'done' what it says of a table."""
-    return MEANING[answer.number] + (": the table passes" if answer.number == 0 else "")
+    return MEANING[answer.number] + beyond(answer)
 
 
 def figures(table):

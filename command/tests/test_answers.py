@@ -70,7 +70,7 @@ class Explain(Bench):
                 for name, last in (("DP1", 1), ("DP1 and DP2", 2), ("all tasks", 3)):
                     sums[name] = sums.get(name, 0) + (share if int(queue) <= last else 0)
             for name, total in sums.items():
-                shown, above = re.search(rf"(?m)^{name} +\d+  (\S+) %(, above 100 %)?$", out).groups()
+                shown, above = re.search(rf"(?m)^{name} +\d+  (\S+) %(, above 100 %)?(?:  <-.*)?$", out).groups()
                 self.assert_percent(shown, total)
                 self.assertEqual(above is not None, total > 1)
 
@@ -86,7 +86,7 @@ class Explain(Bench):
         exact = self.explained(self.image_of(ZEROS + "task DP1 7 2000 1000\ntask DP1 9 2000 1000\n"))
         self.assertRegex(exact, r"(?m)^DP1 +2  100\.00 %$")
         above = self.explained(self.image_of(ZEROS + "task DP1 7 1000000 999999\ntask DP1 9 100000000 101\n"))
-        self.assertRegex(above, r"(?m)^DP1 +2  100\.01 %, above 100 %$")
+        self.assertRegex(above, r"(?m)^DP1 +2  100\.01 %, above 100 %  <- DP1 over full$")
         self.assertIn("verdict 11 0", above)
         below = self.explained(self.image_of(ZEROS + "task DP1 7 1000000 999999\ntask DP1 9 100000000 1\n"))
         self.assertRegex(below, r"(?m)^DP1 +2  99\.99 %$")
