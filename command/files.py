@@ -1,4 +1,5 @@
 """Files read and written, and the trouble with them named: the one place that opens a file of the caller's."""
+import errno
 import os
 import shutil
 from contextlib import contextmanager
@@ -102,6 +103,8 @@ def put_over(path, data):
 
 def write(path, data, force):
     """Writes over nothing, unless it is asked to."""
+    if os.path.isdir(path):
+        raise Trouble(f"{shown(path)}: {os.strerror(errno.EISDIR)}")
     try:
         (put_over if force else put_new)(path, data)
     except FileExistsError:

@@ -58,26 +58,29 @@ def summary(answers, unread):
     return f"{counted(len(answers), 'image')}: {refused} refused, {failing} that {does} not pass, {passing} that {passes}{tail}"
 
 
-def passed_over(paths):
+def names_of(paths, shelf):
+    """The names of one folder's files stand without it."""
+    return [files.shown(os.path.relpath(path, shelf) if shelf else path) + ("/" if os.path.isdir(path) else "") for path in paths]
+
+
+def passed_over(names):
     """The names passed over; of more than a few with one ending, the ending and their count."""
-    names = [os.path.basename(p) + ("/" if os.path.isdir(p) else "") for p in paths]
     endings = Counter(os.path.splitext(n)[1] for n in names)
     many = [e for e, n in endings.items() if e and n > MANY]
     return [n for n in names if os.path.splitext(n)[1] not in many] + [f"{endings[e]} named *{e}" for e in many]
 
 
 def as_text(found, passed, unread, shelf):
-    """The rows, the totals, and what was passed over. The names of one folder's images stand without it."""
-    names = [files.shown(os.path.relpath(path, shelf) if shelf else path) for path, _ in found]
-    yield from columns([(name, " ".join(map(str, a)), meaning(a)) for name, (_, a) in zip(names, found)])
-    answers = [a for _, a in found]
+    """The rows, the totals, and what was passed over."""
+    names, answers = names_of([path for path, _ in found], shelf), [a for _, a in found]
+    yield from columns([(name, " ".join(map(str, a)), meaning(a)) for name, a in zip(names, answers)])
     if answers:
         yield ""
     yield summary(answers, len(unread))
     yield from columns([(str(n), f"{a.word} {a.number}", meaning(a)) for a, n in totals(answers)], right=(0,))
     if passed:
         yield ""
-        yield f"passed over, as no file ending in {' or '.join(ENDINGS)}: " + files.shown(", ".join(passed_over(passed)))
+        yield f"passed over, as no file ending in {' or '.join(ENDINGS)}: " + ", ".join(passed_over(names_of(passed, shelf)))
 
 
 def as_json(found, passed, unread):

@@ -11,12 +11,12 @@ Answer = namedtuple("Answer", "word number place")
 
 
 class Row:
-    """A task of the table: its fields from the image, its charge from the proved code."""
+    """A task of the table: number, queue and charge from the proved code, period and cost from the image."""
 
-    def __init__(self, values, charge):
-        self.number, self.queue = values["number"], QUEUES[values["queue"]]
-        self.period, self.cost, self.charge = values["period"], values["cost"], charge
-        self.load = self.cost + charge
+    def __init__(self, proved, values):
+        self.number, self.queue, self.charge = proved.number, QUEUES[proved.queue], proved.charge
+        self.period, self.cost = values["period"], values["cost"]
+        self.load = self.cost + self.charge
         self.share = Fraction(self.load, self.period)
 
 
@@ -27,7 +27,7 @@ class Table:
         found = [] if self.judged.load else records(image)
         read = [decode(r) for r in found]
         tasks = [r.values for r in read if r.kind == "task"]
-        self.tasks = [Row(values, proved.charge) for values, proved in zip(tasks, self.judged.tasks)]
+        self.tasks = [Row(*both) for both in zip(self.judged.tasks, tasks)]
         self.board = next((r.values for r in read if r.kind == "board"), None)
         self.semaphores = [r.values["number"] for r in read if r.kind == "semaphore"]
         self.erased = found.count(ERASED)

@@ -138,9 +138,11 @@ class Inventory(Bench):
         for folder in ("one", "two"):
             os.mkdir(self.path(folder))
             self.put(f"{folder}/a.img", contents(GOOD))
+            self.put(f"{folder}/notes", b"")
         out = self.rack("inventory", "one", "two").out
         self.assertIn("one/a.img  verdict 0 0", out)
         self.assertIn("two/a.img  verdict 0 0", out)
+        self.assertIn("passed over, as no file ending in .img or .bin: one/notes, two/notes\n", out)
 
 
 class Clean(Bench):

@@ -173,7 +173,7 @@ class Writing(Bench):
         for words in WRITERS:
             for force in ((), ("--force",)):
                 self.assert_told(self.rack(*words, *force, "no/where", status=1), "no/where", "No such file or directory")
-                self.assert_told(self.rack(*words, *force, ".", status=1), ": .")
+                self.assert_told(self.rack(*words, *force, ".", status=1), ": .: Is a directory")
             self.assert_told(self.rack(*words, "--force", "/dev/full", status=1), "/dev/full", "No space left on device")
         self.assertEqual(os.listdir(self.folder), ["table.txt"])
 
