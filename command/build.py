@@ -134,6 +134,14 @@ def closure(name):
     return reached
 
 
+def room():
+    """How many characters the terminal has in a line, less the last, which would break it."""
+    try:
+        return (os.get_terminal_size(sys.stderr.fileno()).columns or 80) - 1
+    except OSError:
+        return 79
+
+
 class Progress:
     """One line that renews on a terminal, a line for each crate elsewhere."""
 
@@ -145,7 +153,7 @@ class Progress:
         self.ticker = threading.Thread(target=self.tick, daemon=True)
 
     def __enter__(self):
-        self.at = f"{self.what}: 0 of {self.count} crates, some minutes the first time"
+        self.at = f"{self.what}: 0 of {self.count} crates, may take minutes"
         if self.terminal:
             self.ticker.start()
         else:
@@ -182,8 +190,7 @@ class Progress:
         """Renews the line, cut to the terminal's width."""
         waiting = True
         while waiting:
-            room = max(20, shutil.get_terminal_size().columns - 1)
-            text = f"rack: {self.at}, {self.seconds()} s so far"[:room]
+            text = f"rack: {self.at}, {self.seconds()} s so far"[: room()]
             murmur("\r" + text.ljust(self.width))
             self.width = len(text)
             waiting = not self.ended.wait(0.5)

@@ -107,6 +107,7 @@ class Build(Bench):
         said = os.read(ours, 65536).decode()
         os.close(ours)
         self.assertEqual(said.count("\n"), 1, said)
+        self.assertLess(max(map(len, said.split("\r"))), 80)
         self.assertGreater(len(set(re.findall(r"\rrack: the checking program: 1 of 3 crates, one proved, (\d) s so far", said))), 1, said)
         self.assertTrue(re.search(r"\r *\rrack: the checking program is proved, \d+ s\r\n$", said), said)
 
