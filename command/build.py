@@ -107,8 +107,8 @@ def run(what, words, lock):
     progress = Progress(what, closure(words[-1]))
     pipes = {"stdin": subprocess.DEVNULL, "stdout": subprocess.PIPE, "stderr": subprocess.STDOUT}
     made, said = subprocess.Popen(words, cwd=ROOT, pass_fds=[lock.fileno()], **pipes), []
-    with progress:
-        for raw in made.stdout:
+    with progress, made.stdout as lines:
+        for raw in lines:
             line = raw.decode("utf-8", "replace").rstrip("\n")
             if not progress.follow(line):
                 said.append(line)
