@@ -16,7 +16,7 @@ use Rattle.table.specs.WellFormed.{boardInRange}
 use Rattle.table.proofs.SumLaws.{countOf-more, countOf-bound}
 use Rattle.table.proofs.OrderLaws.{BoardRange, board-range}
 use Rattle.charges.specs.declared.Counts.{Counts}
-use Rattle.charges.specs.Charges.{tasksIn, countsOf, choiceDP, choiceFP, sumDP, choiceUnblocked, sumFP, sumBy, chargeBy, loadBy, chargeOf, loadOf}
+use Rattle.charges.specs.Charges.{tasksIn, countsOf, choiceDP, choiceFP, sumDP, sumDP1, sumDP2, choiceUnblocked, sumFP, sumBy, chargeBy, loadBy, chargeOf, loadOf}
 
 -- one task more
 pub tasksIn-more : (queue : ℕ) (tasks : List Task) (i : ℕ) (d : Task) → i < length tasks
@@ -88,7 +88,7 @@ charge-small : (c : Counts) (t : Task) → Small c → chargeBy c t ≤ 90000000
 unfolding chargeBy sumBy
 charge-small c t s = go (eqb (t .queue) 1) (eqb (t .queue) 2)
   where
-    go : (a b : Bool) → (3 * cond a (sumDP c (c .m) (c .q)) (cond b (sumDP c (c .r) (c .m)) (sumFP c)) + 1) / 2 ≤ 900000000
+    go : (a b : Bool) → (3 * cond a (sumDP1 c) (cond b (sumDP2 c) (sumFP c)) + 1) / 2 ≤ 900000000
     go true b = omega (arith, dp-small c (c .m) (c .q) s (s .m) (s .q))
     go false true = omega (arith, dp-small c (c .r) (c .m) s (s .r) (s .m))
     go false false = omega (arith, fp-small c s)

@@ -37,6 +37,14 @@ choiceFP c = c .board .«fp_select» + c .k * c .board .«per_queue»
 abbrev pub sumDP : Counts → ℕ → ℕ → ℕ
 sumDP c blocked unblocked = c .board .«dp_block» + choiceDP c blocked + c .board .«dp_unblock» + choiceDP c unblocked
 
+-- DP1: DP block + choice over m + DP unblock + choice over q
+abbrev pub sumDP1 : Counts → ℕ
+sumDP1 c = sumDP c (c .m) (c .q)
+
+-- DP2: DP block + choice over r + DP unblock + choice over m
+abbrev pub sumDP2 : Counts → ℕ
+sumDP2 c = sumDP c (c .r) (c .m)
+
 -- FP: choice over m if r > 0, else FP choice
 unfoldable pub choiceUnblocked : Counts → ℕ
 choiceUnblocked c = cond (ltb 0 (c .r)) (choiceDP c (c .m)) (choiceFP c)
@@ -45,9 +53,9 @@ choiceUnblocked c = cond (ltb 0 (c .r)) (choiceDP c (c .m)) (choiceFP c)
 abbrev pub sumFP : Counts → ℕ
 sumFP c = c .board .«fp_block» + (c .n - c .r) * c .board .«fp_block_task» + choiceFP c + c .board .«fp_unblock» + choiceUnblocked c
 
--- a task's sum is that of its own queue: in DP1 it blocks with a choice over m and unblocks with one over q, in DP2 with r and m
+-- a task's sum is that of its own queue
 unfoldable pub sumBy : Counts → Task → ℕ
-sumBy c t = cond (eqb (t .queue) 1) (sumDP c (c .m) (c .q)) (cond (eqb (t .queue) 2) (sumDP c (c .r) (c .m)) (sumFP c))
+sumBy c t = cond (eqb (t .queue) 1) (sumDP1 c) (cond (eqb (t .queue) 2) (sumDP2 c) (sumFP c))
 
 -- 01, "Charges": the charge is 3/2 of the sum, rounded up to a whole tick
 unfoldable pub chargeBy : Counts → Task → ℕ

@@ -61,7 +61,7 @@ timeUpTo demand (suc limit) = later (timeUpTo demand limit) (decLe (demand (suc 
 unfoldable pub decided : {P : Type 0} → Dec P → Bool
 decided d = ite d true false
 
--- whether there is a time for a DP2 task with this period
+-- what the search answers: whether there is a time for a DP2 task with this period
 abbrev pub hasTime : Columns → ℕ → Bool
 hasTime c own = decided (timeUpTo (demandDP2 c own) own)
 
@@ -70,11 +70,11 @@ abbrev pub TimeDP2 : Columns → ℕ → Type 0
 TimeDP2 c i = TimeUpTo (demandDP2 c (at (c .periods) i)) (at (c .periods) i)
 
 abbrev pub timeDP2 : (c : Columns) (i : ℕ) → Dec (TimeDP2 c i)
-timeDP2 c i = timeUpTo (demandDP2 c (at (c .periods) i)) (at (c .periods) i)
+timeDP2 c i = timeUpTo _ _
 
 -- 01, "The tests", 14: for FP task i there is a time up to its period
 abbrev pub TimeFP : Columns → ℕ → Type 0
 TimeFP c i = TimeUpTo (demandFP c i) (at (c .periods) i)
 
 abbrev pub timeFP : (c : Columns) (i : ℕ) → Dec (TimeFP c i)
-timeFP c i = timeUpTo (demandFP c i) (at (c .periods) i)
+timeFP c i = timeUpTo _ _

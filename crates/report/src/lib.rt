@@ -1,13 +1,13 @@
 // What the checking program prints for an image, put into a lent buffer.
-ghost use Prim.Native.Nat.{_+_, _*_, _≤_};
-ghost use lib.ListN.{length, take};
-ghost use Rattle.lines.specs.Lines.{Put};
+ghost use Prim.Native.Nat.{_+_, _≤_};
+ghost use mathlib.Core.List.{[], _∷_};
+ghost use lib.ListN.{length};
+ghost use Rattle.lines.specs.Lines.{Put, lineOf};
 ghost use Rattle.executive.specs.States.{tasksOf};
 ghost use Rattle.executive.specs.Sound.{Sound};
-ghost use Rattle.report.specs.Report.{Reported, lineBy, taskLines, verdictLine};
+ghost use Rattle.report.specs.Report.{Reported, lineBy, taskLines};
 use charges::Counts;
 use executive::state::State;
-use judging::Verdict;
 use table::Task;
 use table::numbers;
 
@@ -25,12 +25,12 @@ pub fn report(image: &[u8], out: &mut [u8]) -> usize
     let loaded = image::load::load(image);
     let number = loaded.number;
     if number != numbers::DONE {
-        let told = [number as u64, loaded.place as u64];
-        return lines::put_line(out, 0, b"image", &told);
+        return put_pair(out, 0, b"image", number as u64, loaded.place as u64);
     }
     let state = loaded.state;
     let end = put_tasks(state, out);
-    put_verdict(judging::judge::judge(state), out, end)
+    let told = judging::judge::judge(state);
+    put_pair(out, end, b"verdict", told.number as u64, told.task as u64)
 }
 
 // A line for each task: `task`, number, queue, charge.
@@ -59,11 +59,11 @@ fn put_task(counts: Counts, task: Task, out: &mut [u8], at: usize) -> usize
     lines::put_line(out, at, b"task", &told)
 }
 
-// The last line: `verdict`, number, task.
-fn put_verdict(verdict: Verdict, out: &mut [u8], at: usize) -> usize
-    requires { ⌜ at + 50 ≤ length (now out) ⌝ }
-    ensures { λ r. ⌜ Put (now (out .entry)) at (verdictLine verdict) (now (out .exit)) r ⌝ }
+// A line of a word and two numbers: `image`, number, place, and `verdict`, number, task.
+fn put_pair(out: &mut [u8], at: usize, word: &[u8], one: u64, two: u64) -> usize
+    requires { ⌜ at + length (now word) + 43 ≤ length (now out) ⌝ }
+    ensures { λ r. ⌜ Put (now (out .entry)) at (lineOf (now (word .entry)) (one ∷ two ∷ [])) (now (out .exit)) r ⌝ }
 {
-    let told = [verdict.number as u64, verdict.task as u64];
-    lines::put_line(out, at, b"verdict", &told)
+    let told = [one, two];
+    lines::put_line(out, at, word, &told)
 }
