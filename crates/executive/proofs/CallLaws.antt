@@ -10,7 +10,7 @@ use lib.Dec.{ltb, eqb}
 use lib.ListN.{length, getD}
 use borrow.Author.Tests.{eq-eqb, ne-eqb, eqb-true, eqb-false, ltb-true, ltb-false, not-false}
 use Rattle.table.specs.declared.Task.{Task}
-use Rattle.table.specs.declared.Status.{Status}
+use Rattle.table.specs.declared.Status.the-variants.{Ready}
 use Rattle.table.specs.declared.Sem.{Sem}
 use Rattle.table.specs.declared.Found.{Found}
 use Rattle.table.specs.declared.Found.the-variants.{At, Nothing}
@@ -21,13 +21,14 @@ use Rattle.table.proofs.SumLaws.{any-none}
 use Rattle.table.proofs.RefusalLaws.{answered-refused, answered-done, firstOf-here, firstOf-past, firstOf-zero}
 use Rattle.table.proofs.PlaceLaws.{Come, come-hit, come-miss, come-past, come-end}
 use Rattle.waits.specs.Waits.{taskAt, semAt, waitsFor, heldBy}
-use Rattle.waits.specs.Standing.{foundAnd, foundOr, isNone, doingOf, holdsIt, stillHolds}
+use Rattle.waits.specs.Standing.{foundAnd, foundOr, isNone, isEvent, doingOf, holdsIt, stillHolds}
 use Rattle.waits.proofs.StandingLaws.{doing-is}
 use Rattle.executive.specs.declared.state.State.{State}
 use Rattle.executive.specs.States.{tasksOf}
 use Rattle.executive.specs.Sound.{Sized}
 use Rattle.executive.specs.declared.calls.Moved.{Moved}
-use Rattle.executive.specs.Calls.{moved, withTask, busy, untimely, noEventWait, noSemWait, onTask}
+use Rattle.executive.specs.Calls.{moved, withTask, nowDoes, busy, untimely, noEventWait, noSemWait, onTask}
+use Rattle.executive.specs.Wakes.{wakeOf}
 use Rattle.executive.proofs.SoundLaws.{task-at}
 
 -- a call that asks first whether something was found
@@ -200,26 +201,27 @@ holds-none sems i none k h by =
     omega arith
 
 -- what the code asks of an entry by the number of what its task does is what the refusals say of the task
-module _ (s : State) (i : ℕ) (s₀ : State) where
-  told : (f : Bool → List (ℕ × Bool)) (test test' : Bool) → test ≡ test'
-      → firstOf ((20, not (ltb i (s₀ .n))) ∷ f test) ≡ firstOf ((20, not (ltb i (s₀ .n))) ∷ f test')
-  told f test test' e = ap (λ (b : Bool). firstOf ((20, not (ltb i (s₀ .n))) ∷ f b)) e
+pub release-told : (s s₀ : State) (i time : ℕ)
+    → firstOf ((20, not (ltb i (s₀ .n))) ∷ (23, not (eqb (doingOf ((getD (s .tasks) i blankTask) .status)) 0)) ∷ (22, untimely (s₀ .last) time) ∷ [])
+    ≡ firstOf ((20, not (ltb i (s₀ .n))) ∷ (23, busy (getD (s .tasks) i blankTask)) ∷ (22, untimely (s₀ .last) time) ∷ [])
+unfolding busy
+release-told s s₀ i time =
+    ap (λ (b : Bool). firstOf ((20, not (ltb i (s₀ .n))) ∷ (23, not b) ∷ (22, untimely (s₀ .last) time) ∷ []))
+    (doing-is ((getD (s .tasks) i blankTask) .status) .0)
 
-  now : Status
-  now = (getD (s .tasks) i blankTask) .status
+-- a call that names a task goes by what its refusals say of each task
+on-same : (s : State) (number k : ℕ) (test test' : Task → Bool) (done : ℕ → State) → ((t : Task) → test t ≡ test' t)
+    → onTask s number (λ t. (k, test t) ∷ []) done ≡ onTask s number (λ t. (k, test' t) ∷ []) done
+on-same s number k test test' done e = λ j. onTask s number (λ t. (k, e t j) ∷ []) done
 
-  pub release-told : (time : ℕ)
-      → firstOf ((20, not (ltb i (s₀ .n))) ∷ (23, not (eqb (doingOf ((getD (s .tasks) i blankTask) .status)) 0)) ∷ (22, untimely (s₀ .last) time) ∷ [])
-      ≡ firstOf ((20, not (ltb i (s₀ .n))) ∷ (23, busy (getD (s .tasks) i blankTask)) ∷ (22, untimely (s₀ .last) time) ∷ [])
-  unfolding busy now
-  release-told time = told (λ b. (23, b) ∷ (22, untimely (s₀ .last) time) ∷ []) _ _ (ap not (doing-is now .0))
+pub signal-wakes : (s : State) (number : ℕ) → wakeOf s number 2 24 ≡ onTask s number (λ t. (24, noEventWait t) ∷ []) (λ i. nowDoes s i Ready)
+unfolding noEventWait
+signal-wakes s number =
+    on-same s number 24 (λ t. not (eqb (doingOf (t .status)) 2)) (λ t. not (isEvent (t .status))) (λ i. nowDoes s i Ready)
+    (λ t. ap not (doing-is (t .status) .2))
 
-  pub signal-told : firstOf ((20, not (ltb i (s₀ .n))) ∷ (24, not (eqb (doingOf ((getD (s .tasks) i blankTask) .status)) 2)) ∷ [])
-      ≡ firstOf ((20, not (ltb i (s₀ .n))) ∷ (24, noEventWait (getD (s .tasks) i blankTask)) ∷ [])
-  unfolding noEventWait now
-  signal-told = told (λ b. (24, b) ∷ []) _ _ (ap not (doing-is now .2))
-
-  pub withdraw-told : firstOf ((20, not (ltb i (s₀ .n))) ∷ (25, not (eqb (doingOf ((getD (s .tasks) i blankTask) .status)) 3)) ∷ [])
-      ≡ firstOf ((20, not (ltb i (s₀ .n))) ∷ (25, noSemWait (getD (s .tasks) i blankTask)) ∷ [])
-  unfolding noSemWait now
-  withdraw-told = told (λ b. (25, b) ∷ []) _ _ (ap not (doing-is now .3) ∙ Bool·not-not (isNone (waitsFor now)))
+pub withdraw-wakes : (s : State) (number : ℕ) → wakeOf s number 3 25 ≡ onTask s number (λ t. (25, noSemWait t) ∷ []) (λ i. nowDoes s i Ready)
+unfolding noSemWait
+withdraw-wakes s number =
+    on-same s number 25 (λ t. not (eqb (doingOf (t .status)) 3)) (λ t. isNone (waitsFor (t .status))) (λ i. nowDoes s i Ready)
+    (λ t. ap not (doing-is (t .status) .3) ∙ Bool·not-not (isNone (waitsFor (t .status))))

@@ -1,11 +1,12 @@
 -- What a sound state says of its entries.
 -- Assumes nothing.
 use Prim.Native.Nat.{ℕ, _≤_, _<_}
-use mathlib.Core.Path.{_≡_}
+use mathlib.Core.Path.{_≡_, sym, _∙_}
 use native.Mathlib.Omega.{arith}
 use lib.Dec.{eqb}
-use lib.ListN.{length, getD}
-use Rattle.table.specs.declared.Found.the-variants.{At}
+use lib.ListN.{length, take, getD}
+use Rattle.table.specs.declared.Found.{Found}
+use Rattle.table.specs.declared.Found.the-variants.{At, Nothing}
 use Rattle.table.specs.Entries.{blankTask, blankSem}
 use Rattle.table.specs.Places.{taskPlace, semPlace}
 use Rattle.table.specs.WellFormed.{taskInRange}
@@ -83,3 +84,37 @@ module _ (s : State) (sound : Sound s) where
 
   pub heir-below : (k i : ℕ) → heirOf (tasksOf s) (semsOf s) k ≡ At i → i < s .n
   heir-below k i e = let l = tasks-length in let b = heir-is (tasksOf s) (semsOf s) k i e .below in omega arith
+
+-- what is known of a task that was found to run
+pub record Runs (s : State) (i : ℕ) : Type 0 where
+  pub is : runningOf (tasksOf s) (semsOf s) ≡ At i
+  pub below : i < s .n
+  pub fits : i < 64
+
+pub runs-found : (s : State) → Sound s → (f : Found) → f ≡ runningOf (take (s .n) (s .tasks)) (take (s .m) (s .sems)) → (i : ℕ) → f ≡ At i → Runs s i
+unfolding tasksOf semsOf
+runs-found s sound f runs i e =
+    let is = sym runs ∙ e in
+    let below = runs-below s sound i is in
+    let z = sound .sized in
+    record { is = is; below = below; fits = omega arith }
+
+pub nobody-found : (s : State) (f : Found) → f ≡ runningOf (take (s .n) (s .tasks)) (take (s .m) (s .sems)) → f ≡ Nothing
+    → runningOf (tasksOf s) (semsOf s) ≡ Nothing
+unfolding tasksOf semsOf
+nobody-found s f runs e = sym runs ∙ e
+
+-- and of a semaphore that was found by its number
+pub record Stands (s : State) (number k : ℕ) : Type 0 where
+  pub is : semPlace (semsOf s) number ≡ At k
+  pub below : k < s .m
+  pub fits : k < 16
+
+pub sem-found : (s : State) → Sound s → (number : ℕ) (f : Found) → f ≡ semPlace (take (s .m) (s .sems)) number → (k : ℕ) → f ≡ At k
+    → Stands s number k
+unfolding semsOf
+sem-found s sound number f at k e =
+    let is = sym at ∙ e in
+    let below = sem-below s sound number k is in
+    let z = sound .sized in
+    record { is = is; below = below; fits = omega arith }

@@ -9,6 +9,7 @@ ghost use Rattle.table.specs.Refusals.{firstOf};
 ghost use Rattle.table.specs.Entries.{spanOf, withStatus, withDeadline};
 ghost use Rattle.executive.specs.Sound.{Sized, Sound};
 ghost use Rattle.waits.specs.Standing.{doingOf};
+ghost use Rattle.executive.specs.Wakes.{wakeOf};
 ghost use Rattle.executive.specs.Calls.{
   untimely,
   releaseOf,
@@ -108,10 +109,10 @@ impl State {
         }
     }
 
-    // Makes an event waiter ready.
-    pub fn signal(mut self, number: u16) -> Moved
+    // Makes a task ready that does what is wanted; else the number is the refusal.
+    fn wake(mut self, number: u16, wanted: u8, refusal: u8) -> Moved
         requires { ⌜ Sized self ⌝ }
-        ensures { λ r. ⌜ r ≡ signalOf self number ⌝ }
+        ensures { λ r. ⌜ r ≡ wakeOf self number wanted refusal ⌝ }
     {
         let n = self.n;
         let mut answer = numbers::UNKNOWN_TASK;
@@ -120,7 +121,7 @@ impl State {
             let t = self.tasks[i];
             if t.number == number {
                 let status = t.status;
-                answer = wake_refusal(i < n, status, standing::EVENT, numbers::NO_EVENT_WAIT);
+                answer = wake_refusal(i < n, status, wanted, refusal);
                 if answer == numbers::DONE {
                     self.tasks[i] = t.with_status(Status::Ready);
                 }
@@ -134,30 +135,20 @@ impl State {
         }
     }
 
+    // Makes an event waiter ready.
+    pub fn signal(self, number: u16) -> Moved
+        requires { ⌜ Sized self ⌝ }
+        ensures { λ r. ⌜ r ≡ signalOf self number ⌝ }
+    {
+        self.wake(number, standing::EVENT, numbers::NO_EVENT_WAIT)
+    }
+
     // Makes a semaphore waiter ready without it.
-    pub fn withdraw(mut self, number: u16) -> Moved
+    pub fn withdraw(self, number: u16) -> Moved
         requires { ⌜ Sized self ⌝ }
         ensures { λ r. ⌜ r ≡ withdrawOf self number ⌝ }
     {
-        let n = self.n;
-        let mut answer = numbers::UNKNOWN_TASK;
-        let mut i: usize = 0;
-        while i < limits::TASKS {
-            let t = self.tasks[i];
-            if t.number == number {
-                let status = t.status;
-                answer = wake_refusal(i < n, status, standing::WAITS, numbers::NO_SEM_WAIT);
-                if answer == numbers::DONE {
-                    self.tasks[i] = t.with_status(Status::Ready);
-                }
-                break;
-            }
-            i += 1;
-        }
-        Moved {
-            state: self,
-            answer,
-        }
+        self.wake(number, standing::WAITS, numbers::NO_SEM_WAIT)
     }
 
     // The running task becomes idle.

@@ -16,7 +16,7 @@ use Rattle.table.specs.declared.Status.the-variants.{Waits}
 use Rattle.waits.specs.Standing.{runningOf, closesRing}
 use Rattle.executive.specs.States.{tasksOf, semsOf}
 use Rattle.executive.specs.Calls.{acquireAt, takeOrWait, nowDoes, nowHeld, moved, withTask, withSem, withTasks, withSems}
-use Rattle.executive.proofs.SoundLaws.{used, task-at, sem-at, runs-below, sem-below}
+use Rattle.executive.proofs.SoundLaws.{used, task-at, sem-at, Runs, runs-found, nobody-found, Stands, sem-found}
 use Rattle.executive.proofs.RunLaws.{acquire-none, acquire-unknown, acquire-ring, acquire-goes}
 use Rattle.executive.proofs.state.State.acquire.Statement.{statement}
 use Rattle.executive.proofs.state.State.acquire.Tie as tie
@@ -27,21 +27,11 @@ running-requires c κs = used (c .before .before .args .t1) (c .before .before .
 enum-known-runs : tie.Need-enum-known-runs
 enum-known-runs c = search needs
 
--- the task that runs
-runs : (c : tie.After-known-told)
-    → runningOf (tasksOf (c .before .before .before .before .before .before .args .t1)) (semsOf (c .before .before .before .before .before .before .args .t1)) ≡ At (c .before .runs .given .0 .0)
-unfolding tasksOf semsOf
-runs c = sym (c .before .before .before .running .ensures) ∙ c .before .runs .given .1
-
-below : (c : tie.After-known-told) → c .before .runs .given .0 .0 < c .before .before .before .before .before .before .args .t1 .n
-below c = runs-below (c .before .before .before .before .before .before .args .t1) (c .before .before .before .before .before .before .pre) (c .before .runs .given .0 .0) (runs c)
-
-fits : (c : tie.After-known-told) → c .before .runs .given .0 .0 < 64
-fits c = let h = below c in let z = c .before .before .before .before .before .before .pre .sized in omega arith
-
-nobody : (c : tie.After-enum-told) → runningOf (tasksOf (c .before .before .before .before .before .args .t1)) (semsOf (c .before .before .before .before .before .args .t1)) ≡ Nothing
-unfolding tasksOf semsOf
-nobody c = sym (c .before .before .running .ensures) ∙ c .enum-told .given .1
+runs : (c : tie.After-known-told) → Runs (c .before .before .before .before .before .before .args .t1) (c .before .runs .given .0 .0)
+runs c =
+    let b = c .before .before .before .before .before .before in
+    let r = c .before .before .before .running in
+    runs-found (b .args .t1) (b .pre) (r .result) (r .ensures) (c .before .runs .given .0 .0) (c .before .runs .given .1)
 
 enum-told : tie.Need-enum-told
 enum-told c = search needs
@@ -55,21 +45,11 @@ enum-known-found c = search needs
 enum-told-2 : tie.Need-enum-told-2
 enum-told-2 c = search needs
 
--- the semaphore is there
-place : (c : tie.After-known-told2) → semPlace (semsOf (c .before .before .before .before .before .before .before .before .before .before .before .args .t1)) (c .before .before .before .before .before .before .before .before .before .before .before .args .number) ≡ At (c .before .found .given .0 .0)
-unfolding semsOf
-place c = sym (c .before .before .before .sem-place .ensures) ∙ c .before .found .given .1
-
-held : (c : tie.After-known-told2) → c .before .found .given .0 .0 < c .before .before .before .before .before .before .before .before .before .before .before .args .t1 .m
-held c = sem-below (c .before .before .before .before .before .before .before .before .before .before .before .args .t1) (c .before .before .before .before .before .before .before .before .before .before .before .pre) (c .before .before .before .before .before .before .before .before .before .before .before .args .number) (c .before .found .given .0 .0) (place c)
-
-small : (c : tie.After-known-told2) → c .before .found .given .0 .0 < 16
-small c = let h = held c in let z = c .before .before .before .before .before .before .before .before .before .before .before .pre .sized in omega arith
-
--- or nowhere
-no-place : (c : tie.After-enum-told2) → semPlace (semsOf (c .before .before .before .before .before .before .before .before .before .before .args .t1)) (c .before .before .before .before .before .before .before .before .before .before .args .number) ≡ Nothing
-unfolding semsOf
-no-place c = sym (c .before .before .sem-place .ensures) ∙ c .enum-told2 .given .1
+stands : (c : tie.After-known-told2) → Stands (c .before .before .before .before .before .before .before .before .before .before .before .args .t1) (c .before .before .before .before .before .before .before .before .before .before .before .args .number) (c .before .found .given .0 .0)
+stands c =
+    let b = c .before .before .before .before .before .before .before .before .before .before .before in
+    let r = c .before .before .before .sem-place in
+    sem-found (b .args .t1) (b .pre) (b .args .number) (r .result) (r .ensures) (c .before .found .given .0 .0) (c .before .found .given .1)
 
 -- whether a ring would be closed
 ring : (c : tie.After-closes-ring) (b : Bool) → c .closes-ring .result ≡ b
@@ -79,45 +59,45 @@ ring c b e = sym (c .closes-ring .ensures) ∙ e
 
 returns : tie.Need-returns
 unfolding moved
-returns c = sym (acquire-none (c .before .before .before .before .before .args .t1) (c .before .before .before .before .before .args .number) (nobody c))
+returns c = sym (acquire-none (c .before .before .before .before .before .args .t1) (c .before .before .before .before .before .args .number) (nobody-found (c .before .before .before .before .before .args .t1) (c .before .before .running .result) (c .before .before .running .ensures) (c .enum-told .given .1)))
 
 returns-2 : tie.Need-returns-2
-unfolding moved
+unfolding moved semsOf
 returns-2 c =
     let a = c .before .before .before .before .before .before .before .before .before .before .args in
-    sym (acquire-unknown (a .t1) (a .number) (c .before .before .before .before .before .runs .given .0 .0) (runs (c .before .before .before .before)) (no-place c))
+    sym (acquire-unknown (a .t1) (a .number) (c .before .before .before .before .before .runs .given .0 .0) (runs (c .before .before .before .before) .is) (sym (c .before .before .sem-place .ensures) ∙ c .enum-told2 .given .1))
 
 closes-ring-requires : tie.Need-closes-ring-requires
-closes-ring-requires c κs = let b = c .before .before .before .before .before .before .before .before .before .before .before .before .before in (used (b .args .t1) (b .pre), below (c .before .before .before .before .before .before .before), held (c .before .before))
+closes-ring-requires c κs = let b = c .before .before .before .before .before .before .before .before .before .before .before .before .before in (used (b .args .t1) (b .pre), runs (c .before .before .before .before .before .before .before) .below, stands (c .before .before) .below)
 
 returns-3 : tie.Need-returns-3
 unfolding moved
 returns-3 c =
     let a = c .before .before .before .before .before .before .before .before .before .before .before .before .before .before .before .args in
     sym
-    (acquire-ring (a .t1) (a .number) (c .before .before .before .before .before .before .before .before .before .before .runs .given .0 .0) (runs (c .before .before .before .before .before .before .before .before .before)) (c .before .before .before .before .before .found .given .0 .0) (place (c .before .before .before .before))
+    (acquire-ring (a .t1) (a .number) (c .before .before .before .before .before .before .before .before .before .before .runs .given .0 .0) (runs (c .before .before .before .before .before .before .before .before .before) .is) (c .before .before .before .before .before .found .given .0 .0) (stands (c .before .before .before .before) .is)
     (ring (c .before) true (c .if1 .taken)))
 
 mul-entry : tie.Need-mul-entry
-mul-entry c = omega (arith, small (c .before .before .before .before))
+mul-entry c = omega (arith, stands (c .before .before .before .before) .fits)
 
 element-copy-out-entry : tie.Need-element-copy-out-entry
-element-copy-out-entry c = small (c .before .before .before .before)
+element-copy-out-entry c = stands (c .before .before .before .before) .fits
 
 enum-told-3 : tie.Need-enum-told-3
 enum-told-3 c = search needs
 
 cast-t23 : tie.Need-cast-t23
-cast-t23 c = omega (arith, fits (c .before .before .before .before .before .before .before .before .before .before .before .before))
+cast-t23 c = omega (arith, runs (c .before .before .before .before .before .before .before .before .before .before .before .before) .fits)
 
 with-holder-requires : tie.Need-with-holder-requires
 with-holder-requires c κs = search needs
 
 mul-t25 : tie.Need-mul-t25
-mul-t25 c = omega (arith, small (c .before .before .before .before .before .before .before .before))
+mul-t25 c = omega (arith, stands (c .before .before .before .before .before .before .before .before) .fits)
 
 element-set-from-self : tie.Need-element-set-from-self
-element-set-from-self c = small (c .before .before .before .before .before .before .before .before)
+element-set-from-self c = stands (c .before .before .before .before .before .before .before .before) .fits
 
 returns-4 : tie.Need-returns-4
 unfolding moved acquireAt takeOrWait nowHeld withSems
@@ -126,32 +106,32 @@ returns-4 c =
     let s = a .t1 in
     let k = c .before .before .before .before .before .before .before .before .before .found .given .0 .0 in
     let i = c .before .before .before .before .before .before .before .before .before .before .before .before .before .before .runs .given .0 .0 in
-    let entry = sem-at s k (held (c .before .before .before .before .before .before .before .before)) in
+    let entry = sem-at s k (stands (c .before .before .before .before .before .before .before .before) .below) in
     ap (λ (x : Sem). moved (withSem s k x) 0) (c .with-holder .ensures ∙ ap (λ (x : Sem). withHolder x (By i)) (sym entry))
     ∙ sym
-    (acquire-goes s (a .number) i (runs (c .before .before .before .before .before .before .before .before .before .before .before .before .before)) k (place (c .before .before .before .before .before .before .before .before)) (ring (c .before .before .before .before .before) false (c .before .before .before .before .if1 .left))
+    (acquire-goes s (a .number) i (runs (c .before .before .before .before .before .before .before .before .before .before .before .before .before) .is) k (stands (c .before .before .before .before .before .before .before .before) .is) (ring (c .before .before .before .before .before) false (c .before .before .before .before .if1 .left))
     ∙ ap (takeOrWait s i k) (ap (λ (x : Sem). x .holder) entry ∙ c .before .enum-told3 .given .1))
 
 enum-told-4 : tie.Need-enum-told-4
 enum-told-4 c = search needs
 
 mul-t : tie.Need-mul-t
-mul-t c = omega (arith, fits (c .before .before .before .before .before .before .before .before .before .before .before .before))
+mul-t c = omega (arith, runs (c .before .before .before .before .before .before .before .before .before .before .before .before) .fits)
 
 element-copy-out-t : tie.Need-element-copy-out-t
-element-copy-out-t c = fits (c .before .before .before .before .before .before .before .before .before .before .before .before)
+element-copy-out-t c = runs (c .before .before .before .before .before .before .before .before .before .before .before .before) .fits
 
 cast-t32 : tie.Need-cast-t32
-cast-t32 c = omega (arith, small (c .before .before .before .before .before .before .before .before))
+cast-t32 c = omega (arith, stands (c .before .before .before .before .before .before .before .before) .fits)
 
 with-status-requires : tie.Need-with-status-requires
 with-status-requires c κs = search needs
 
 mul-t14 : tie.Need-mul-t14
-mul-t14 c = omega (arith, fits (c .before .before .before .before .before .before .before .before .before .before .before .before .before .before))
+mul-t14 c = omega (arith, runs (c .before .before .before .before .before .before .before .before .before .before .before .before .before .before) .fits)
 
 element-set-from-self-2 : tie.Need-element-set-from-self-2
-element-set-from-self-2 c = fits (c .before .before .before .before .before .before .before .before .before .before .before .before .before .before)
+element-set-from-self-2 c = runs (c .before .before .before .before .before .before .before .before .before .before .before .before .before .before) .fits
 
 returns-5 : tie.Need-returns-5
 unfolding moved acquireAt takeOrWait nowDoes withTasks
@@ -160,11 +140,11 @@ returns-5 c =
     let s = a .t1 in
     let k = c .before .before .before .before .before .before .before .before .before .before .found .given .0 .0 in
     let i = c .before .before .before .before .before .before .before .before .before .before .before .before .before .before .before .runs .given .0 .0 in
-    let entry = sem-at s k (held (c .before .before .before .before .before .before .before .before .before)) in
+    let entry = sem-at s k (stands (c .before .before .before .before .before .before .before .before .before) .below) in
     ap (λ (t : Task). moved (withTask s i t) 90)
-    (c .with-status .ensures ∙ ap (λ (t : Task). withStatus t (Waits k)) (sym (task-at s i (below (c .before .before .before .before .before .before .before .before .before .before .before .before .before .before)))))
+    (c .with-status .ensures ∙ ap (λ (t : Task). withStatus t (Waits k)) (sym (task-at s i (runs (c .before .before .before .before .before .before .before .before .before .before .before .before .before .before) .below))))
     ∙ sym
-    (acquire-goes s (a .number) i (runs (c .before .before .before .before .before .before .before .before .before .before .before .before .before .before)) k (place (c .before .before .before .before .before .before .before .before .before)) (ring (c .before .before .before .before .before .before) false (c .before .before .before .before .before .if1 .left))
+    (acquire-goes s (a .number) i (runs (c .before .before .before .before .before .before .before .before .before .before .before .before .before .before) .is) k (stands (c .before .before .before .before .before .before .before .before .before) .is) (ring (c .before .before .before .before .before .before) false (c .before .before .before .before .before .if1 .left))
     ∙ ap (takeOrWait s i k) (ap (λ (x : Sem). x .holder) entry ∙ c .before .before .enum-told4 .given .1))
 
 pub acquire-spec : {M : Type 1} → statement M

@@ -16,7 +16,7 @@ use Rattle.table.specs.declared.Status.the-variants.{Ready}
 use Rattle.waits.specs.Standing.{runningOf, heirOf, holdsIt}
 use Rattle.executive.specs.States.{tasksOf, semsOf}
 use Rattle.executive.specs.Calls.{giveOf, giveAt, handOver, notHeld, nowDoes, nowHeld, moved, withTask, withSem, withTasks, withSems}
-use Rattle.executive.proofs.SoundLaws.{used, task-at, sem-at, runs-below, sem-below, heir-below}
+use Rattle.executive.proofs.SoundLaws.{used, task-at, sem-at, heir-below, Runs, runs-found, nobody-found, Stands, sem-found}
 use Rattle.executive.proofs.RunLaws.{give-none, give-unknown, give-unheld, give-goes}
 use Rattle.executive.proofs.state.State.give.Statement.{statement}
 use Rattle.executive.proofs.state.State.give.Tie as tie
@@ -27,21 +27,11 @@ running-requires c κs = used (c .before .before .args .t1) (c .before .before .
 enum-known-runs : tie.Need-enum-known-runs
 enum-known-runs c = search needs
 
--- the task that runs
-runs : (c : tie.After-known-told)
-    → runningOf (tasksOf (c .before .before .before .before .before .before .args .t1)) (semsOf (c .before .before .before .before .before .before .args .t1)) ≡ At (c .before .runs .given .0 .0)
-unfolding tasksOf semsOf
-runs c = sym (c .before .before .before .running .ensures) ∙ c .before .runs .given .1
-
-below : (c : tie.After-known-told) → c .before .runs .given .0 .0 < c .before .before .before .before .before .before .args .t1 .n
-below c = runs-below (c .before .before .before .before .before .before .args .t1) (c .before .before .before .before .before .before .pre) (c .before .runs .given .0 .0) (runs c)
-
-fits : (c : tie.After-known-told) → c .before .runs .given .0 .0 < 64
-fits c = let h = below c in let z = c .before .before .before .before .before .before .pre .sized in omega arith
-
-nobody : (c : tie.After-enum-told) → runningOf (tasksOf (c .before .before .before .before .before .args .t1)) (semsOf (c .before .before .before .before .before .args .t1)) ≡ Nothing
-unfolding tasksOf semsOf
-nobody c = sym (c .before .before .running .ensures) ∙ c .enum-told .given .1
+runs : (c : tie.After-known-told) → Runs (c .before .before .before .before .before .before .args .t1) (c .before .runs .given .0 .0)
+runs c =
+    let b = c .before .before .before .before .before .before in
+    let r = c .before .before .before .running in
+    runs-found (b .args .t1) (b .pre) (r .result) (r .ensures) (c .before .runs .given .0 .0) (c .before .runs .given .1)
 
 enum-told : tie.Need-enum-told
 enum-told c = search needs
@@ -55,21 +45,11 @@ enum-known-found c = search needs
 enum-told-2 : tie.Need-enum-told-2
 enum-told-2 c = search needs
 
--- the semaphore is there
-place : (c : tie.After-known-told2) → semPlace (semsOf (c .before .before .before .before .before .before .before .before .before .before .before .args .t1)) (c .before .before .before .before .before .before .before .before .before .before .before .args .number) ≡ At (c .before .found .given .0 .0)
-unfolding semsOf
-place c = sym (c .before .before .before .sem-place .ensures) ∙ c .before .found .given .1
-
-held : (c : tie.After-known-told2) → c .before .found .given .0 .0 < c .before .before .before .before .before .before .before .before .before .before .before .args .t1 .m
-held c = sem-below (c .before .before .before .before .before .before .before .before .before .before .before .args .t1) (c .before .before .before .before .before .before .before .before .before .before .before .pre) (c .before .before .before .before .before .before .before .before .before .before .before .args .number) (c .before .found .given .0 .0) (place c)
-
-small : (c : tie.After-known-told2) → c .before .found .given .0 .0 < 16
-small c = let h = held c in let z = c .before .before .before .before .before .before .before .before .before .before .before .pre .sized in omega arith
-
--- or nowhere
-no-place : (c : tie.After-enum-told2) → semPlace (semsOf (c .before .before .before .before .before .before .before .before .before .before .args .t1)) (c .before .before .before .before .before .before .before .before .before .before .args .number) ≡ Nothing
-unfolding semsOf
-no-place c = sym (c .before .before .sem-place .ensures) ∙ c .enum-told2 .given .1
+stands : (c : tie.After-known-told2) → Stands (c .before .before .before .before .before .before .before .before .before .before .before .args .t1) (c .before .before .before .before .before .before .before .before .before .before .before .args .number) (c .before .found .given .0 .0)
+stands c =
+    let b = c .before .before .before .before .before .before .before .before .before .before .before in
+    let r = c .before .before .before .sem-place in
+    sem-found (b .args .t1) (b .pre) (b .args .number) (r .result) (r .ensures) (c .before .found .given .0 .0) (c .before .found .given .1)
 
 -- whether the running task holds it
 unheld : (c : tie.After-holds-it) (b : Bool) → not (c .holds-it .result) ≡ b
@@ -77,7 +57,7 @@ unheld : (c : tie.After-holds-it) (b : Bool) → not (c .holds-it .result) ≡ b
 unfolding notHeld
 unheld c b e =
     let s = c .before .before .before .before .before .before .before .before .before .before .before .before .before .args .t1 in
-    ap (λ (x : Sem). not (holdsIt (c .before .before .before .before .before .before .before .before .runs .given .0 .0) x)) (sem-at s (c .before .before .before .found .given .0 .0) (held (c .before .before)))
+    ap (λ (x : Sem). not (holdsIt (c .before .before .before .before .before .before .before .before .runs .given .0 .0) x)) (sem-at s (c .before .before .before .found .given .0 .0) (stands (c .before .before) .below))
     ∙ ap not (sym (c .holds-it .ensures)) ∙ e
 
 -- the heir is a task that there is
@@ -98,24 +78,24 @@ gives : (c : tie.After-heir)
     → giveOf (c .before .before .before .before .before .before .before .before .before .before .before .before .before .before .before .before .before .args .t1) (c .before .before .before .before .before .before .before .before .before .before .before .before .before .before .before .before .before .args .number) ≡ moved (giveAt (c .before .before .before .before .before .before .before .before .before .before .before .before .before .before .before .before .before .args .t1) (c .before .before .before .before .before .before .before .found .given .0 .0)) 0
 gives c =
     let a = c .before .before .before .before .before .before .before .before .before .before .before .before .before .before .before .before .before .args in
-    give-goes (a .t1) (a .number) (c .before .before .before .before .before .before .before .before .before .before .before .before .runs .given .0 .0) (runs (c .before .before .before .before .before .before .before .before .before .before .before)) (c .before .before .before .before .before .before .before .found .given .0 .0) (place (c .before .before .before .before .before .before))
+    give-goes (a .t1) (a .number) (c .before .before .before .before .before .before .before .before .before .before .before .before .runs .given .0 .0) (runs (c .before .before .before .before .before .before .before .before .before .before .before) .is) (c .before .before .before .before .before .before .before .found .given .0 .0) (stands (c .before .before .before .before .before .before) .is)
     (unheld (c .before .before .before .before) false (c .before .before .before .if1 .left))
 
 returns : tie.Need-returns
 unfolding moved
-returns c = sym (give-none (c .before .before .before .before .before .args .t1) (c .before .before .before .before .before .args .number) (nobody c))
+returns c = sym (give-none (c .before .before .before .before .before .args .t1) (c .before .before .before .before .before .args .number) (nobody-found (c .before .before .before .before .before .args .t1) (c .before .before .running .result) (c .before .before .running .ensures) (c .enum-told .given .1)))
 
 returns-2 : tie.Need-returns-2
-unfolding moved
+unfolding moved semsOf
 returns-2 c =
     let a = c .before .before .before .before .before .before .before .before .before .before .args in
-    sym (give-unknown (a .t1) (a .number) (c .before .before .before .before .before .runs .given .0 .0) (runs (c .before .before .before .before)) (no-place c))
+    sym (give-unknown (a .t1) (a .number) (c .before .before .before .before .before .runs .given .0 .0) (runs (c .before .before .before .before) .is) (sym (c .before .before .sem-place .ensures) ∙ c .enum-told2 .given .1))
 
 mul-entry : tie.Need-mul-entry
-mul-entry c = omega (arith, small c)
+mul-entry c = omega (arith, stands c .fits)
 
 element-copy-out-entry : tie.Need-element-copy-out-entry
-element-copy-out-entry c = small c
+element-copy-out-entry c = stands c .fits
 
 holds-it-requires : tie.Need-holds-it-requires
 holds-it-requires c κs = search needs
@@ -125,11 +105,11 @@ unfolding moved
 returns-3 c =
     let a = c .before .before .before .before .before .before .before .before .before .before .before .before .before .before .args in
     sym
-    (give-unheld (a .t1) (a .number) (c .before .before .before .before .before .before .before .before .before .runs .given .0 .0) (runs (c .before .before .before .before .before .before .before .before)) (c .before .before .before .before .found .given .0 .0) (place (c .before .before .before))
+    (give-unheld (a .t1) (a .number) (c .before .before .before .before .before .before .before .before .before .runs .given .0 .0) (runs (c .before .before .before .before .before .before .before .before) .is) (c .before .before .before .before .found .given .0 .0) (stands (c .before .before .before) .is)
     (unheld (c .before) true (c .if1 .taken)))
 
 heir-requires : tie.Need-heir-requires
-heir-requires c κs = let b = c .before .before .before .before .before .before .before .before .before .before .before .before .before .before .before .before in (used (b .args .t1) (b .pre), held (c .before .before .before .before .before))
+heir-requires c κs = let b = c .before .before .before .before .before .before .before .before .before .before .before .before .before .before .before .before in (used (b .args .t1) (b .pre), stands (c .before .before .before .before .before) .below)
 
 enum-known-waiter : tie.Need-enum-known-waiter
 enum-known-waiter c = search needs
@@ -141,17 +121,17 @@ with-holder-requires : tie.Need-with-holder-requires
 with-holder-requires c κs = search needs
 
 mul-t26 : tie.Need-mul-t26
-mul-t26 c = omega (arith, small (c .before .before .before .before .before .before .before .before .before))
+mul-t26 c = omega (arith, stands (c .before .before .before .before .before .before .before .before .before) .fits)
 
 element-set-from-self : tie.Need-element-set-from-self
-element-set-from-self c = small (c .before .before .before .before .before .before .before .before .before)
+element-set-from-self c = stands (c .before .before .before .before .before .before .before .before .before) .fits
 
 returns-4 : tie.Need-returns-4
 unfolding moved giveAt handOver nowHeld withSems
 returns-4 c =
     let s = c .before .before .before .before .before .before .before .before .before .before .before .before .before .before .before .before .before .before .before .before .args .t1 in
     let k = c .before .before .before .before .before .before .before .before .before .before .found .given .0 .0 in
-    ap (λ (x : Sem). moved (withSem s k x) 0) (c .with-holder .ensures ∙ ap (λ (x : Sem). withHolder x Free) (sym (sem-at s k (held (c .before .before .before .before .before .before .before .before .before)))))
+    ap (λ (x : Sem). moved (withSem s k x) 0) (c .with-holder .ensures ∙ ap (λ (x : Sem). withHolder x Free) (sym (sem-at s k (stands (c .before .before .before .before .before .before .before .before .before) .below))))
     ∙ sym (gives (c .before .before .before) ∙ ap (λ (f : Found). moved (handOver s k f) 0) (sym (heir (c .before .before .before)) ∙ c .before .enum-told3 .given .1))
 
 mul-t : tie.Need-mul-t
@@ -176,10 +156,10 @@ with-holder-requires-2 : tie.Need-with-holder-requires-2
 with-holder-requires-2 c κs = search needs
 
 mul-t15-2 : tie.Need-mul-t15-2
-mul-t15-2 c = omega (arith, small (c .before .before .before .before .before .before .before .before .before .before .before .before))
+mul-t15-2 c = omega (arith, stands (c .before .before .before .before .before .before .before .before .before .before .before .before) .fits)
 
 element-set-from-self-3 : tie.Need-element-set-from-self-3
-element-set-from-self-3 c = small (c .before .before .before .before .before .before .before .before .before .before .before .before)
+element-set-from-self-3 c = stands (c .before .before .before .before .before .before .before .before .before .before .before .before) .fits
 
 returns-5 : tie.Need-returns-5
 unfolding moved giveAt handOver nowHeld nowDoes withSems withTasks semsOf
@@ -190,7 +170,7 @@ returns-5 c =
     ap (λ (t : Task). moved (withSem (withTask s w t) k (c .with-holder2 .result)) 0)
     (c .before .with-status .ensures ∙ ap (λ (t : Task). withStatus t Ready) (sym (task-at s w (heir-there (c .before .before .before)))))
     ∙ ap (λ (x : Sem). moved (withSem (nowDoes s w Ready) k x) 0)
-    (c .with-holder2 .ensures ∙ ap (λ (x : Sem). withHolder x (By w)) (sym (sem-at s k (held (c .before .before .before .before .before .before .before .before .before .before .before .before)))))
+    (c .with-holder2 .ensures ∙ ap (λ (x : Sem). withHolder x (By w)) (sym (sem-at s k (stands (c .before .before .before .before .before .before .before .before .before .before .before .before) .below))))
     ∙ sym (gives (c .before .before .before .before .before .before) ∙ ap (λ (f : Found). moved (handOver s k f) 0) (sym (heir (c .before .before .before .before .before .before)) ∙ c .before .before .before .before .waiter .given .1))
 
 pub give-spec : {M : Type 1} → statement M

@@ -50,7 +50,7 @@ released-requires c κs =
     let t = getD (l .self .tasks) (l .i) blankTask in
     release-timely (busy t) (a .t1 .last) (a .time)
     (firstOf-zero 20 (not (ltb (l .i) (a .t1 .n))) (refusals (a .t1) (a .time) t) (eqb-false 20 0 refl)
-    (sym (c .before .release-refusal .ensures ∙ release-told (l .self) (l .i) (a .t1) (a .time)) ∙ c .if2 .taken) .1) .1
+    (sym (c .before .release-refusal .ensures ∙ release-told (l .self) (a .t1) (l .i) (a .time)) ∙ c .if2 .taken) .1) .1
 
 mul-t18 : tie.Need-mul-t18 Inv-loop μ-loop
 mul-t18 c = search needs
@@ -85,7 +85,7 @@ returns-2 c = let b = c .before .before .before .before .before .before .before 
     let r = c .before .before .release-refusal in
     ap (λ (t : Task). moved (withLast (withTask (l .self) (l .i) t) (a .time)) (r .result)) (c .released .ensures)
     ∙ seeks-done (a .number) (a .t1) (l .self) (l .answer) (l .i) (b .pre) (l .inv) (refusals (a .t1) (a .time)) (next (a .time)) (λ x. withLast x (a .time))
-    (c .before .before .before .if1 .taken) (r .result) (r .ensures ∙ release-told (l .self) (l .i) (a .t1) (a .time)) (c .before .if2 .taken)
+    (c .before .before .before .if1 .taken) (r .result) (r .ensures ∙ release-told (l .self) (a .t1) (l .i) (a .time)) (c .before .if2 .taken)
 
 returns-3 : tie.Need-returns-3 Inv-loop μ-loop
 unfolding releaseOf moved releaseAt
@@ -94,7 +94,7 @@ returns-3 c = let b = c .before .before .before .before .before .before .before 
     let l = c .before .before .before .before .before .before .loop in
     let r = c .before .release-refusal in
     seeks-refused (a .number) (a .t1) (l .self) (l .answer) (l .i) (b .pre) (l .inv) (refusals (a .t1) (a .time)) (next (a .time)) (λ x. withLast x (a .time))
-    (c .before .before .if1 .taken) (r .result) (r .ensures ∙ release-told (l .self) (l .i) (a .t1) (a .time)) (c .if2 .left)
+    (c .before .before .if1 .taken) (r .result) (r .ensures ∙ release-told (l .self) (a .t1) (l .i) (a .time)) (c .if2 .left)
 
 pub release-spec : {M : Type 1} → statement M
 release-spec =

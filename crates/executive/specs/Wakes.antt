@@ -1,0 +1,16 @@
+-- What signal and withdraw have in common, by the number of what the task is to be doing. Nobody need believe anything of it: their contracts do not
+-- cite it.
+use Prim.Native.Nat.{ℕ}
+use mathlib.Core.Bool.{Bool, not}
+use mathlib.Core.List.{List, [], _∷_}
+use lib.Dec.{eqb}
+use Rattle.table.specs.declared.Task.{Task}
+use Rattle.table.specs.declared.Status.the-variants.{Ready}
+use Rattle.waits.specs.Standing.{doingOf}
+use Rattle.executive.specs.declared.state.State.{State}
+use Rattle.executive.specs.declared.calls.Moved.{Moved}
+use Rattle.executive.specs.Calls.{nowDoes, onTask}
+
+abbrev pub wakeOf : State → ℕ → ℕ → ℕ → Moved
+wakeOf s number wanted refusal =
+    onTask s number (λ t. (refusal, not (eqb (doingOf (t .status)) wanted)) ∷ []) (λ i. nowDoes s i Ready)
