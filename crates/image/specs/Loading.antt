@@ -27,7 +27,7 @@ taken t (BoardRecord b) = addBoard t b
 taken t (SemRecord x) = addSem t x
 taken t (Refused number) = t
 
--- whether an erased record came before, behind this record
+-- whether an erased record has come, once this record is read
 unfoldable pub erasedAfter : Bool → Decoded → Bool
 erasedAfter erased Erased = true
 erasedAfter erased (TaskRecord x) = erased

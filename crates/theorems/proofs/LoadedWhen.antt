@@ -74,7 +74,7 @@ module _ (y x : Task) where
       | inl q ↦ simp (lt-leb (y .queue) (x .queue) q)
       | inr v ↦ elim v [
         | inl p ↦ simp (le-ltb (y .period) (x .period) (omega arith), ne-eqb (y .period) (x .period) (λ e. omega arith), and-false)
-        | inr n ↦ simp (le-ltb (y .period) (x .period) (omega (arith, n .0)), le-ltb (y .number) (x .number) (n .1), and-false)
+        | inr n ↦ simp (le-ltb (y .period) (x .period) (omega (arith, n .0)), le-ltb (y .number) (x .number) (omega (arith, n .1)), and-false)
       ]
     ],
   )

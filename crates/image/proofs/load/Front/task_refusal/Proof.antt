@@ -36,35 +36,34 @@ returns-3 c =
     let out : (eqb (f .n) 0 || taskBefore (f .task) x) ≡ false = sym (c .before .goes-on-with .ensures) ∙ not-true (c .before .goes-on-with .result) (c .if3 .taken) in
     sym (simp (c .before .before .before .before .if1 .left, eq-eqb (f .m) 0 (c .before .before .if2 .left), out))
 
+-- it stands after the task before it, and then: its number is new
+fine : (c : tie.Else3) → (eqb (c .before .before .before .before .before .before .args .self .n) 0 || taskBefore (c .before .before .before .before .before .before .args .self .task) (c .before .before .before .before .before .before .args .task)) ≡ true
+fine c = sym (c .before .goes-on-with .ensures) ∙ not-false (c .before .goes-on-with .result) (c .if3 .left)
+
+new : (c : tie.Else4) → any (λ y. eqb y (c .before .before .before .before .before .before .before .before .args .task .number)) (now (c .before .before .before .before .before .before .before .before .args .given)) ≡ false
+new c = sym (c .before .number-given .ensures) ∙ c .if4 .left
+
 number-given-requires : tie.Need-number-given-requires
 number-given-requires c κs = search needs
 
 returns-4 : tie.Need-returns-4
 unfolding frontRefusal firstOf usedAfter refusedAs frontBroken frontTwice frontFull
 returns-4 c =
-    let f = c .before .before .before .before .before .before .before .before .args .self in
-    let x = c .before .before .before .before .before .before .before .before .args .task in
-    let fine : (eqb (f .n) 0 || taskBefore (f .task) x) ≡ true = sym (c .before .before .before .goes-on-with .ensures) ∙ not-false (c .before .before .before .goes-on-with .result) (c .before .before .if3 .left) in
-    let twice : any (λ y. eqb y (x .number)) (now (c .before .before .before .before .before .before .before .before .args .given)) ≡ true = sym (c .before .number-given .ensures) ∙ c .if4 .taken in
-    sym (simp (c .before .before .before .before .before .before .if1 .left, eq-eqb (f .m) 0 (c .before .before .before .before .if2 .left), fine, twice))
+    let a = c .before .before .before .before .before .before .before .before .args in
+    let twice : any (λ y. eqb y (a .task .number)) (now (a .given)) ≡ true = sym (c .before .number-given .ensures) ∙ c .if4 .taken in
+    sym (simp (c .before .before .before .before .before .before .if1 .left, eq-eqb (a .self .m) 0 (c .before .before .before .before .if2 .left), fine (c .before .before), twice))
 
 returns-5 : tie.Need-returns-5
 unfolding frontRefusal firstOf usedAfter refusedAs frontBroken frontTwice frontFull
 returns-5 c =
     let f = c .before .before .before .before .before .before .before .before .before .before .args .self in
-    let x = c .before .before .before .before .before .before .before .before .before .before .args .task in
-    let fine : (eqb (f .n) 0 || taskBefore (f .task) x) ≡ true = sym (c .before .before .before .before .before .goes-on-with .ensures) ∙ not-false (c .before .before .before .before .before .goes-on-with .result) (c .before .before .before .before .if3 .left) in
-    let new : any (λ y. eqb y (x .number)) (now (c .before .before .before .before .before .before .before .before .before .before .args .given)) ≡ false = sym (c .before .before .before .number-given .ensures) ∙ c .before .before .if4 .left in
-    sym (simp (c .before .before .before .before .before .before .before .before .if1 .left, eq-eqb (f .m) 0 (c .before .before .before .before .before .before .if2 .left), fine, new, le-leb 64 (f .n) (omega arith)))
+    sym (simp (c .before .before .before .before .before .before .before .before .if1 .left, eq-eqb (f .m) 0 (c .before .before .before .before .before .before .if2 .left), fine (c .before .before .before .before), new (c .before .before), le-leb 64 (f .n) (omega arith)))
 
 returns-6 : tie.Need-returns-6
 unfolding frontRefusal firstOf usedAfter refusedAs frontBroken frontTwice frontFull
 returns-6 c =
     let f = c .before .before .before .before .before .before .before .before .before .before .args .self in
-    let x = c .before .before .before .before .before .before .before .before .before .before .args .task in
-    let fine : (eqb (f .n) 0 || taskBefore (f .task) x) ≡ true = sym (c .before .before .before .before .before .goes-on-with .ensures) ∙ not-false (c .before .before .before .before .before .goes-on-with .result) (c .before .before .before .before .if3 .left) in
-    let new : any (λ y. eqb y (x .number)) (now (c .before .before .before .before .before .before .before .before .before .before .args .given)) ≡ false = sym (c .before .before .before .number-given .ensures) ∙ c .before .before .if4 .left in
-    sym (simp (c .before .before .before .before .before .before .before .before .if1 .left, eq-eqb (f .m) 0 (c .before .before .before .before .before .before .if2 .left), fine, new, lt-leb 64 (f .n) (omega arith)))
+    sym (simp (c .before .before .before .before .before .before .before .before .if1 .left, eq-eqb (f .m) 0 (c .before .before .before .before .before .before .if2 .left), fine (c .before .before .before .before), new (c .before .before), lt-leb 64 (f .n) (omega arith)))
 
 pub task-refusal-spec : {M : Type 1} → statement M
 task-refusal-spec =
