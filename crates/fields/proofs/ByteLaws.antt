@@ -131,6 +131,11 @@ module _ (l : List ℕ) (at : ℕ) where
       ∙ (sym (append-assoc p b (hi ++ drop (at + (w + v)) l))
       ∙ (ap (λ (m : List ℕ). m ++ (hi ++ drop (at + (w + v)) l)) (sym before) ∙ ap (λ (m : List ℕ). take (at + w) (p ++ (b ++ drop (at + w) l)) ++ (hi ++ m)) (sym after))))
 
+  -- a low half that was put, and then the high one behind it
+  pub halves-put : (w x : ℕ) (low high : List ℕ) → at + (w + w) ≤ length l → low ≡ putAt w l at (x % 2 ^ (8 * w))
+      → high ≡ putAt w low (at + w) (x / 2 ^ (8 * w)) → high ≡ putAt (w + w) l at x
+  halves-put w x low high h a b = b ∙ (ap (λ (m : List ℕ). putAt w m (at + w) (x / 2 ^ (8 * w))) a ∙ sym (putAt-wider w w x h))
+
   -- one byte is stored
   pub putAt-one : (x : ℕ) → at < length l → x < 256 → putAt 1 l at x ≡ set l at x
   unfolding putAt bytesOf

@@ -1,6 +1,7 @@
 // The entries of a rack's table, the limits and the numbers of document 01, and the built-in figures of the board.
 ghost use mathlib.Core.Path.{_≡_};
-ghost use Rattle.table.specs.Entries.{builtIn, noFigures, blankTask, blankSem, withStatus, withDeadline, withHolder};
+ghost use Rattle.table.specs.Entries.{builtIn, noFigures, blankTask, blankSem};
+ghost use Rattle.table.specs.Entries.{withStatus, withDeadline, withHolder};
 
 pub mod limits;
 pub mod numbers;

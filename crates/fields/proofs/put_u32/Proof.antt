@@ -1,13 +1,9 @@
 -- `fields::put_u32` meets its contract: two halves are put, the low one first.
 -- Assumes nothing.
-use Prim.Native.Nat.{ℕ, _+_, _/_, _%_}
-use mathlib.Core.Path.{_≡_, sym, ap, _∙_}
-use mathlib.Core.List.{List}
 use native.Mathlib.Omega.{arith}
 use denote.Ref.{now}
 use borrow.Author.Needs.{needs}
-use Rattle.fields.specs.Fields.{putAt}
-use Rattle.fields.proofs.ByteLaws.{putAt-wider}
+use Rattle.fields.proofs.ByteLaws.{halves-put}
 use Rattle.fields.proofs.put_u32.Statement.{statement}
 use Rattle.fields.proofs.put_u32.Tie as tie
 
@@ -32,10 +28,7 @@ same-length c = search needs
 returns : tie.Need-returns
 returns c =
     let a = c .before .before .before .before .before .before .before .before .before .args in
-    let first : c .before .before .before .before .before .before .put-u16 .last .0 ≡ putAt 2 (now (a .s)) (a .at) (a .value % 65536) =
-    c .before .before .before .before .before .before .put-u16 .ensures in
-    c .before .before .put-u162 .ensures
-    ∙ (ap (λ (m : List ℕ). putAt 2 m (a .at + 2) (a .value / 65536)) first ∙ sym (putAt-wider (now (a .s)) (a .at) 2 2 (a .value) (omega arith)))
+    halves-put (now (a .s)) (a .at) 2 (a .value) _ _ (omega arith) (c .before .before .before .before .before .before .put-u16 .ensures) (c .before .before .put-u162 .ensures)
 
 pub put-u32-spec : {M : Type 1} → statement M
 put-u32-spec =

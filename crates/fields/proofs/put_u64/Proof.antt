@@ -1,13 +1,9 @@
 -- `fields::put_u64` meets its contract: two halves are put, the low one first.
 -- Assumes nothing.
-use Prim.Native.Nat.{ℕ, _+_, _/_, _%_}
-use mathlib.Core.Path.{_≡_, sym, ap, _∙_}
-use mathlib.Core.List.{List}
 use native.Mathlib.Omega.{arith}
 use denote.Ref.{now}
 use borrow.Author.Needs.{needs}
-use Rattle.fields.specs.Fields.{putAt}
-use Rattle.fields.proofs.ByteLaws.{putAt-wider}
+use Rattle.fields.proofs.ByteLaws.{halves-put}
 use Rattle.fields.proofs.put_u64.Statement.{statement}
 use Rattle.fields.proofs.put_u64.Tie as tie
 
@@ -32,10 +28,7 @@ same-length c = search needs
 returns : tie.Need-returns
 returns c =
     let a = c .before .before .before .before .before .before .before .before .before .args in
-    let first : c .before .before .before .before .before .before .put-u32 .last .0 ≡ putAt 4 (now (a .s)) (a .at) (a .value % 4294967296) =
-    c .before .before .before .before .before .before .put-u32 .ensures in
-    c .before .before .put-u322 .ensures
-    ∙ (ap (λ (m : List ℕ). putAt 4 m (a .at + 4) (a .value / 4294967296)) first ∙ sym (putAt-wider (now (a .s)) (a .at) 4 4 (a .value) (omega arith)))
+    halves-put (now (a .s)) (a .at) 4 (a .value) _ _ (omega arith) (c .before .before .before .before .before .before .put-u32 .ensures) (c .before .before .put-u322 .ensures)
 
 pub put-u64-spec : {M : Type 1} → statement M
 put-u64-spec =
