@@ -1,21 +1,18 @@
 -- Look-up by number in a sound state: 0 is never a task nor a semaphore, and a number that is there is found where it stands.
 -- Assumes nothing.
 use Prim.Native.Nat.{ℕ, zero, suc, _≤_, _<_}
-use mathlib.Core.Path.{_≡_, refl, sym, ap, _∙_}
+use mathlib.Core.Path.{_≡_, refl, sym, ap}
 use mathlib.Core.Bool.{Bool, true, false}
 use mathlib.Core.List.{List}
 use native.Mathlib.Omega.{arith}
 use lib.Dec.{eqb, ltb}
-use lib.ListN.{length, getD, take, length-take}
+use lib.ListN.{length, getD, length-take}
 use borrow.Author.Tests.{eqb-true, eq-eqb, ltb-true, ltb-false}
-use Rattle.table.specs.declared.Task.{Task}
-use Rattle.table.specs.declared.Sem.{Sem}
 use Rattle.table.specs.declared.Found.{Found}
 use Rattle.table.specs.declared.Found.the-variants.{At, Nothing}
 use Rattle.table.specs.Entries.{blankTask, blankSem}
-use Rattle.table.specs.Sums.{every}
 use Rattle.table.specs.Places.{firstPlace, taskPlace, semPlace}
-use Rattle.table.specs.WellFormed.{WellFormed, within, taskInRange, semInRange}
+use Rattle.table.specs.WellFormed.{taskInRange, semInRange}
 use Rattle.table.proofs.SumLaws.{every-at}
 use Rattle.table.proofs.PlaceLaws.{found, found-only}
 use Rattle.table.proofs.OrderLaws.{task-range, within-true, once, rises}

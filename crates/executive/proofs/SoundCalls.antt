@@ -18,7 +18,7 @@ use Rattle.table.specs.declared.Holder.the-variants.{Free, By}
 use Rattle.table.specs.declared.Found.{Found}
 use Rattle.table.specs.declared.Found.the-variants.{At, Nothing}
 use Rattle.table.specs.Entries.{spanOf, withStatus, withDeadline, withHolder}
-use Rattle.table.specs.Places.{taskPlace, semPlace}
+use Rattle.table.specs.Places.{semPlace}
 use Rattle.table.proofs.RefusalLaws.{firstOf-zero}
 use Rattle.waits.specs.Waits.{taskAt, semAt, waitsFor, heldBy, Ends}
 use Rattle.waits.specs.Standing.{foundAnd, foundOr, isNone, isReady, readyAt, waiterAt, reaches, runningOf, heirOf, standingOf, stillHolds, closesRing}

@@ -1,10 +1,9 @@
 -- What signal and withdraw have in common, by the number of what the task is to be doing. Nobody need believe anything of it: their contracts do not
 -- cite it.
 use Prim.Native.Nat.{ℕ}
-use mathlib.Core.Bool.{Bool, not}
-use mathlib.Core.List.{List, [], _∷_}
+use mathlib.Core.Bool.{not}
+use mathlib.Core.List.{[], _∷_}
 use lib.Dec.{eqb}
-use Rattle.table.specs.declared.Task.{Task}
 use Rattle.table.specs.declared.Status.the-variants.{Ready}
 use Rattle.waits.specs.Standing.{doingOf}
 use Rattle.executive.specs.declared.state.State.{State}

@@ -1,6 +1,6 @@
 -- Demand 1, "exactly when": each call gives the number of the first of its conditions that holds, and 0 where none does.
 -- Assumes nothing.
-use Prim.Native.Nat.{ℕ, zero, suc, _≤_, _<_}
+use Prim.Native.Nat.{ℕ, zero, suc, _<_}
 use mathlib.Core.Path.{_≡_, refl, sym, ap, subst, _∙_}
 use mathlib.Core.Logic.{_↔_, _≢_, _⊎_, inl, inr, ⊎-elim}
 use mathlib.Core.Bool.{Bool, true, false, cond, not, _||_}
@@ -8,7 +8,7 @@ use mathlib.Core.List.{List, [], _∷_}
 use native.Mathlib.Omega.{arith}
 use lib.Dec.{eqb, ltb}
 use lib.ListN.{length, getD}
-use borrow.Author.Tests.{eqb-true, eqb-false, eq-eqb, ne-eqb, ltb-true, ltb-false, lt-ltb, le-ltb, not-true, not-false}
+use borrow.Author.Tests.{eqb-true, eqb-false, eq-eqb, ltb-true, lt-ltb}
 use Rattle.table.specs.declared.Task.{Task}
 use Rattle.table.specs.declared.Sem.{Sem}
 use Rattle.table.specs.declared.Status.{Status}
@@ -21,29 +21,26 @@ use Rattle.table.specs.Entries.{blankTask, blankSem}
 use Rattle.table.specs.Refusals.{firstOf, answered}
 use Rattle.table.specs.Sums.{any}
 use Rattle.table.specs.Places.{firstPlace, taskPlace, semPlace}
-use Rattle.table.proofs.RefusalLaws.{answered-refused, answered-done}
 use Rattle.table.proofs.PlaceLaws.{found, missing}
 use Rattle.table.proofs.OrderLaws.{once}
-use Rattle.table.proofs.SumLaws.{any-none}
 use Rattle.executive.specs.declared.state.State.{State}
-use Rattle.executive.specs.declared.calls.Moved.{Moved}
 use Rattle.executive.specs.declared.standing.Stands.{Stands}
 use Rattle.executive.specs.States.{tasksOf, semsOf}
-use Rattle.executive.specs.Sound.{Sized, Sound}
+use Rattle.executive.specs.Sound.{Sound}
 use Rattle.waits.specs.Waits.{taskAt, semAt, waitsFor, heldBy}
 use Rattle.waits.specs.Standing.{foundAnd, foundOr, isNone, closesRing, holdsIt, stillHolds, isIdle, isReady, isEvent, readyAt, reaches, standingOf, runningOf, bestAmong}
 use Rattle.waits.specs.Reaches.{Reaches}
 use Rattle.waits.proofs.ChainLaws.{reaches-true, true-reaches}
 use Rattle.waits.proofs.DispatchLaws.{standing-is, standing-one}
 use Rattle.executive.proofs.SoundLaws.{chained}
-use Rattle.executive.specs.Calls.{moved, onTask, acquireAt, takeOrWait, notHeld, giveAt, completeAt, nowDoes, releaseAt, shown, standsOf, busy, untimely, noEventWait, noSemWait, releaseOf, signalOf, withdrawOf, acquireOf, giveOf, completeOf, blockOf}
-use Rattle.waits.proofs.RankLaws.{best-is, best-none, best-nothing}
+use Rattle.executive.specs.Calls.{moved, onTask, acquireAt, takeOrWait, notHeld, shown, standsOf, busy, untimely, noEventWait, noSemWait, releaseOf, signalOf, withdrawOf, acquireOf, giveOf, completeOf, blockOf}
+use Rattle.waits.proofs.RankLaws.{best-none, best-nothing}
 use Rattle.executive.proofs.LookupLaws.{tasks-count, sems-count, task-found, sem-once}
 use Rattle.theorems.specs.Histories.{Call, release, signal, withdraw, acquire, give, complete, block, called}
 use Rattle.theorems.specs.When.{FirstThat}
 use Rattle.theorems.specs.Standings.{StandingAnswer, noStanding}
 use Rattle.theorems.specs.Conditions.{conditionsOf, UnknownTask, TheTask, UnknownSem, TheSem, NobodyRuns, TheRunner, releaseConditions, signalConditions, withdrawConditions, acquireConditions, giveConditions, completeConditions, blockConditions}
-use Rattle.theorems.proofs.FirstLaws.{Says, nothing-more, test-says, first-that}
+use Rattle.theorems.proofs.FirstLaws.{nothing-more, test-says, first-that}
 
 -- a call that answers 0 where it is not refused answers the number of its list
 answer-of : (s : State) (k : ℕ) (next : State) → (answered k (moved s) (moved next 0)) .answer ≡ k

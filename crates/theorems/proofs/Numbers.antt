@@ -1,8 +1,8 @@
 -- Demand 1: the number that a call gives is one of document 01's for that call.
 -- Assumes nothing.
 use Prim.Native.Nat.{ℕ}
-use mathlib.Core.Path.{_≡_, refl, ap, subst, sym}
-use mathlib.Core.Logic.{_⊎_, inl, inr}
+use mathlib.Core.Path.{_≡_, refl, subst}
+use mathlib.Core.Logic.{inl, inr}
 use mathlib.Core.List.{List, [], _∷_, map}
 use Rattle.executive.specs.declared.state.State.{State}
 use Rattle.executive.specs.Sound.{Sound}

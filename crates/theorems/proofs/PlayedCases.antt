@@ -54,7 +54,7 @@ use Rattle.executive.specs.Calls.{
 }
 use Rattle.fields.specs.Fields.{valueOf, bytesOf, readAt, allAre}
 use Rattle.records.specs.Records.{taskIn, semIn, unlessOutOfRange, taskDecoded, semDecoded, decoded, encodeTask, encodeSem}
-use Rattle.executive.specs.Tables.{Table, addTask, addSem, addBoard, stateOf}
+use Rattle.executive.specs.Tables.{addTask, addSem, addBoard, stateOf}
 use Rattle.image.specs.Loading.{freshTable, taken, erasedAfter, usedAfter, refusedAs, follows, orderBroken, numberTwice, tooMany, refusalOf, acceptedLoad, finishedLoad, loadFrom, loadRecords, recordsIn, badLength, loadOf}
 use Rattle.image.specs.Writing.{flat, encoded}
 use Rattle.theorems.specs.Histories.{called, after}

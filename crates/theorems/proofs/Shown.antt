@@ -1,14 +1,14 @@
 -- The user's three demands, shown: each statement of specs/Demands.antt under its name in lower case.
 -- Assumes nothing.
-use Prim.Native.Nat.{ℕ, _%_, _≤_, _<_}
+use Prim.Native.Nat.{ℕ, _%_, _<_}
 use mathlib.Core.Path.{_≡_, refl, sym, ap, subst, _∙_}
 use mathlib.Core.Logic.{_↔_, _≢_, _⊎_, inl, inr}
-use mathlib.Core.Bool.{Bool, true, false, not, _||_}
+use mathlib.Core.Bool.{true}
 use mathlib.Core.List.{List, [], _∷_}
 use native.Mathlib.Omega.{arith}
-use lib.Dec.{eqb, ltb}
+use lib.Dec.{ltb}
 use lib.ListN.{length}
-use borrow.Author.Tests.{eqb-true, eqb-false, eq-eqb, ne-eqb, ltb-true, lt-ltb, not-true}
+use borrow.Author.Tests.{eqb-true, eq-eqb, ltb-true, lt-ltb}
 use Rattle.table.proofs.RefusalLaws.{answered-refused}
 use Rattle.executive.specs.declared.state.State.{State}
 use Rattle.executive.specs.States.{tasksOf, semsOf}
@@ -49,7 +49,6 @@ use Rattle.theorems.specs.Histories.{
   after,
   acceptedOf,
 }
-use Rattle.theorems.specs.When.{FirstThat}
 use Rattle.theorems.proofs.Exactly as Exactly
 use Rattle.theorems.proofs.FirstLaws.{nothing-more, test-says, first-that, either}
 use Rattle.theorems.proofs.Judged as Judged

@@ -1,16 +1,16 @@
 -- Demand 3, second half. A task that waits differs from the same task ready in its status alone, and no release or signal looks at more of it than
 -- that it is neither idle nor waiting for an event. So the two states stay apart in that one entry until the withdrawal joins them.
 -- Assumes nothing.
-use Prim.Native.Nat.{ℕ, zero, suc, _+_, _≤_, _<_}
+use Prim.Native.Nat.{ℕ, _+_, _≤_, _<_}
 use mathlib.Core.Path.{_≡_, refl, sym, ap, subst, _∙_}
-use mathlib.Core.Logic.{_≢_, _⊎_, inl, inr}
-use mathlib.Core.Bool.{Bool, true, false, cond, not}
+use mathlib.Core.Logic.{_≢_}
+use mathlib.Core.Bool.{Bool, true, false}
 use mathlib.Core.List.{List, [], _∷_}
 use native.Mathlib.Omega.{arith}
 use lib.Dec.{eqb}
-use lib.ListN.{length, getD, take, set, length-set, length-take}
+use lib.ListN.{length, getD, set, length-set, length-take}
 use lib.Seq.{take-set-lt, getD-set-same, getD-set-other, set-set, set-comm, set-getD, getD-take}
-use borrow.Author.Tests.{eqb-true, eqb-false, eq-eqb, ne-eqb}
+use borrow.Author.Tests.{eqb-true, eqb-false}
 use Rattle.table.specs.declared.Task.{Task}
 use Rattle.table.specs.declared.Status.{Status}
 use Rattle.table.specs.declared.Status.the-variants.{Idle, Ready, Event, Waits}
@@ -26,7 +26,7 @@ use Rattle.table.proofs.PlaceLaws.{search-set, found}
 use Rattle.executive.specs.declared.state.State.{State}
 use Rattle.executive.specs.declared.calls.Moved.{Moved}
 use Rattle.executive.specs.States.{tasksOf, semsOf}
-use Rattle.executive.specs.Sound.{Sized, Sound}
+use Rattle.executive.specs.Sound.{Sound}
 use Rattle.waits.specs.Waits.{taskAt, semAt, waitsFor}
 use Rattle.waits.specs.Standing.{foundAnd, foundOr, isNone, closesRing, isIdle, isReady, isEvent, readyAt, numberAt, standingOf, runningOf}
 use Rattle.executive.specs.Calls.{withTasks, withTask, withLast, nowDoes, moved, onTask, busy, untimely, noEventWait, noSemWait, releaseAt, takeOrWait, acquireAt, releaseOf, signalOf, withdrawOf, acquireOf}
@@ -142,17 +142,7 @@ module _ (i : ℕ) (t w : Task) (same : w .number ≡ t .number) where
   swapped : (s : State) (j : ℕ) (u : Task) (last : ℕ) → i ≢ j
       → withLast (withTask (withTask s i w) j u) last ≡ withTask (withLast (withTask s j u) last) i w
   unfolding withLast withTasks
-  swapped s j u last ne =
-      λ x.
-      record {
-        tasks = set-comm (s .tasks) i j w u ne x;
-        sems = s .sems;
-        n = s .n;
-        m = s .m;
-        last = last;
-        board = s .board;
-        present = s .present;
-      }
+  swapped s j u last ne = ap (λ (l : List Task). withLast (withTasks s l) last) (set-comm (s .tasks) i j w u ne)
 
   -- a call that names a task and refuses both the ready and the waiting one with the same number
   module _ (number : ℕ) (refusals : Task → List (ℕ × Bool)) (next : Task → Task) (keeps : (u : Task) → (next u) .number ≡ u .number)
@@ -263,16 +253,7 @@ module _ (t : Task) (k : ℕ) (ready : t .status ≡ Ready) where
   -- ready again
   back : withStatus (waiting t k) Ready ≡ t
   unfolding waiting
-  back =
-      λ x.
-      record {
-        deadline = t .deadline;
-        period = t .period;
-        cost = t .cost;
-        number = t .number;
-        queue = t .queue;
-        status = sym ready x;
-      }
+  back = ap (withStatus t) (sym ready)
 
 module _ (i : ℕ) (t : Task) (k : ℕ) (ready : t .status ≡ Ready) where
   -- the state in which the task at i waits
@@ -343,18 +324,7 @@ module _ (i : ℕ) (t : Task) (k : ℕ) (ready : t .status ≡ Ready) where
   unfolding apart withTasks taskAt tasksOf
   rejoin s h =
       let there : getD (s .tasks) i blankTask ≡ t = sym (getD-take (s .n) (s .tasks) i blankTask (h .inside)) ∙ h .here in
-      λ x.
-      record {
-        tasks =
-            (set-set (s .tasks) i (waiting t k) t
-            ∙ (ap (set (s .tasks) i) (sym there) ∙ set-getD (s .tasks) i blankTask)) x;
-        sems = s .sems;
-        n = s .n;
-        m = s .m;
-        last = s .last;
-        board = s .board;
-        present = s .present;
-      }
+      ap (withTasks s) (set-set (s .tasks) i (waiting t k) t ∙ ap (set (s .tasks) i) (sym there) ∙ set-getD (s .tasks) i blankTask)
 
   withdrawn : (s : State) → Same s → withdrawOf (apart s) (t .number) ≡ moved s 0
   withdrawn s h =

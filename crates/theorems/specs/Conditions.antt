@@ -7,7 +7,7 @@ use lib.ListN.{length}
 use Rattle.table.specs.declared.Task.{Task}
 use Rattle.table.specs.declared.Sem.{Sem}
 use Rattle.table.specs.declared.Status.the-variants.{Idle, Ready, Event, Waits}
-use Rattle.table.specs.declared.Holder.the-variants.{Free, By}
+use Rattle.table.specs.declared.Holder.the-variants.{By}
 use Rattle.table.specs.declared.Found.the-variants.{At}
 use Rattle.executive.specs.declared.state.State.{State}
 use Rattle.executive.specs.States.{tasksOf, semsOf}

@@ -18,7 +18,7 @@ use Rattle.table.specs.Entries.{blankTask}
 use Rattle.waits.specs.declared.scan.Goal.{Goal}
 use Rattle.waits.specs.declared.scan.Goal.the-variants.{Is, WaitsFor}
 use Rattle.waits.specs.declared.scan.Best.{Best}
-use Rattle.waits.specs.Waits.{taskAt, semAt, waitsFor, heldBy, waitsOn, Chained}
+use Rattle.waits.specs.Waits.{taskAt, semAt, waitsFor, heldBy, Chained}
 use Rattle.waits.specs.Standing.{foundAnd, foundOr, ownOf, reaches, bestAmong, standingOf, isIdle, isReady, isEvent, doingOf, isNone, readyAt, waiterAt, runningOf, heirOf, closesRing}
 use Rattle.waits.specs.Reaches.{Reaches}
 use Rattle.waits.specs.Scan.{takes, takenAt, onward, meets, metBy, semCode, metCode, winnerOf, bestFor, noBest, asBest, metFound, scanOf, walked, ledBy, Linked}

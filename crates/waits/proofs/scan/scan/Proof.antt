@@ -1,12 +1,11 @@
 -- `scan::scan` meets its contract: after i turns the best so far is the fold over the first i tasks, and that is the best that meets the goal.
 -- Assumes nothing.
-use Prim.Native.Nat.{ℕ, _-_, _≤_}
+use Prim.Native.Nat.{_-_, _≤_}
 use mathlib.Core.Path.{_≡_, refl, sym, ap, _∙_}
 use native.Mathlib.Numerals.{add-one}
 use native.Mathlib.Omega.{arith}
 use lib.ListN.{getD}
 use borrow.Author.Needs.{needs}
-use Rattle.table.specs.declared.Task.{Task}
 use Rattle.table.specs.Entries.{blankTask}
 use Rattle.waits.specs.declared.scan.Best.{Best}
 use Rattle.waits.specs.Waits.{taskAt}

@@ -1,13 +1,11 @@
 -- `standing::closes_ring` meets its contract: the table followed from the semaphore on comes to the caller exactly if a ring would close.
 -- Assumes nothing.
-use Prim.Native.Nat.{ℕ, _<_}
 use mathlib.Core.Path.{sym, ap, _∙_}
 use native.Mathlib.Omega.{arith}
 use lib.Dec.{leb}
 use lib.ListN.{take}
-use borrow.Author.Needs.{needs}
 use Rattle.waits.specs.declared.scan.Goal.the-variants.{Is}
-use Rattle.waits.proofs.ScanLaws.{tasks-used, sems-used, holders-fit, linked-used, walk-ends}
+use Rattle.waits.proofs.ScanLaws.{sems-used, holders-fit, linked-used, walk-ends}
 use Rattle.waits.proofs.StandingLaws.{ring-told}
 use Rattle.waits.proofs.standing.closes_ring.Statement.{statement}
 use Rattle.waits.proofs.standing.closes_ring.Tie as tie

@@ -1,10 +1,8 @@
 -- `standing::heir` meets its contract: the waiter that the scan meets is the heir.
 -- Assumes nothing.
-use Prim.Native.Nat.{ℕ, _<_}
 use mathlib.Core.Path.{sym, ap, _∙_}
 use native.Mathlib.Omega.{arith}
 use lib.ListN.{take}
-use borrow.Author.Needs.{needs}
 use Rattle.waits.specs.declared.scan.Goal.the-variants.{WaitsFor}
 use Rattle.waits.specs.Scan.{scanOf}
 use Rattle.waits.proofs.ScanLaws.{tasks-used}

@@ -1,6 +1,5 @@
 -- `standing::own` meets its contract: the fields are those of the task.
 -- Assumes nothing.
-use mathlib.Core.Path.{_≡_}
 use borrow.Author.Needs.{needs}
 use Rattle.waits.proofs.standing.own.Statement.{statement}
 use Rattle.waits.proofs.standing.own.Tie as tie

@@ -1,9 +1,7 @@
 -- `standing::running` meets its contract: the task that the scan meets is the running one.
 -- Assumes nothing.
-use Prim.Native.Nat.{ℕ}
 use mathlib.Core.Path.{sym, ap, _∙_}
 use lib.ListN.{take}
-use borrow.Author.Needs.{needs}
 use Rattle.waits.specs.declared.scan.Goal.{Goal}
 use Rattle.waits.specs.Scan.{scanOf}
 use Rattle.waits.proofs.ScanLaws.{tasks-used}

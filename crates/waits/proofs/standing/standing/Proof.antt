@@ -4,14 +4,11 @@ use Prim.Native.Nat.{ℕ, _<_}
 use mathlib.Core.Path.{_≡_, sym, ap, _∙_}
 use mathlib.Core.List.{List}
 use native.Mathlib.Omega.{arith}
-use lib.ListN.{length, take, getD}
+use lib.ListN.{take, getD}
 use borrow.Author.Tests.{not-true}
-use borrow.Author.Needs.{needs}
 use Rattle.table.specs.declared.Task.{Task}
 use Rattle.table.specs.Entries.{blankTask}
 use Rattle.waits.specs.declared.scan.Goal.the-variants.{Is}
-use Rattle.waits.specs.declared.standing.Rank.{Rank}
-use Rattle.waits.specs.Waits.{taskAt}
 use Rattle.waits.specs.Standing.{ownOf, ownRank, standingOf}
 use Rattle.waits.specs.Scan.{scanOf}
 use Rattle.waits.proofs.ChainLaws.{task-in}

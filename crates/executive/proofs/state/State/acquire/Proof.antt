@@ -1,19 +1,15 @@
 -- `State::acquire` meets its contract: the task that runs, the semaphore and the ring, then the entry anew.
 -- Assumes nothing.
-use Prim.Native.Nat.{_<_}
 use mathlib.Core.Path.{_≡_, sym, ap, _∙_}
-use mathlib.Core.Bool.{Bool, true, false, not}
+use mathlib.Core.Bool.{Bool, true, false}
 use native.Mathlib.Omega.{arith}
 use borrow.Author.Needs.{needs}
 use Rattle.table.specs.declared.Task.{Task}
 use Rattle.table.specs.declared.Sem.{Sem}
-use Rattle.table.specs.declared.Found.{Found}
-use Rattle.table.specs.declared.Found.the-variants.{At, Nothing}
-use Rattle.table.specs.declared.Holder.the-variants.{Free, By}
+use Rattle.table.specs.declared.Holder.the-variants.{By}
 use Rattle.table.specs.Entries.{withStatus, withHolder}
-use Rattle.table.specs.Places.{semPlace}
 use Rattle.table.specs.declared.Status.the-variants.{Waits}
-use Rattle.waits.specs.Standing.{runningOf, closesRing}
+use Rattle.waits.specs.Standing.{closesRing}
 use Rattle.executive.specs.States.{tasksOf, semsOf}
 use Rattle.executive.specs.Calls.{acquireAt, takeOrWait, nowDoes, nowHeld, moved, withTask, withSem, withTasks, withSems}
 use Rattle.executive.proofs.SoundLaws.{used, task-at, sem-at, Runs, runs-found, nobody-found, Stands, sem-found}

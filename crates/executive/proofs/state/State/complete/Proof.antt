@@ -1,14 +1,12 @@
 -- `State::complete` meets its contract: the task that runs, then the refusal, then its entry anew.
 -- Assumes nothing.
-use Prim.Native.Nat.{_<_}
-use mathlib.Core.Path.{_≡_, refl, sym, ap, _∙_}
+use mathlib.Core.Path.{refl, sym, ap, _∙_}
 use mathlib.Core.List.{[], _∷_}
 use native.Mathlib.Omega.{arith}
 use borrow.Author.Tests.{eqb-false, not-true, not-false}
 use borrow.Author.Needs.{needs}
 use Rattle.table.specs.declared.Task.{Task}
 use Rattle.table.specs.declared.Status.the-variants.{Idle}
-use Rattle.table.specs.declared.Found.the-variants.{At, Nothing}
 use Rattle.table.specs.Entries.{withStatus}
 use Rattle.table.proofs.RefusalLaws.{firstOf-none, firstOf-here, firstOf-past}
 use Rattle.waits.specs.Standing.{runningOf, stillHolds}

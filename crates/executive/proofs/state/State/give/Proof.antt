@@ -8,12 +8,10 @@ use borrow.Author.Needs.{needs}
 use Rattle.table.specs.declared.Task.{Task}
 use Rattle.table.specs.declared.Sem.{Sem}
 use Rattle.table.specs.declared.Found.{Found}
-use Rattle.table.specs.declared.Found.the-variants.{At, Nothing}
 use Rattle.table.specs.declared.Holder.the-variants.{Free, By}
 use Rattle.table.specs.Entries.{withStatus, withHolder}
-use Rattle.table.specs.Places.{semPlace}
 use Rattle.table.specs.declared.Status.the-variants.{Ready}
-use Rattle.waits.specs.Standing.{runningOf, heirOf, holdsIt}
+use Rattle.waits.specs.Standing.{heirOf, holdsIt}
 use Rattle.executive.specs.States.{tasksOf, semsOf}
 use Rattle.executive.specs.Calls.{giveOf, giveAt, handOver, notHeld, nowDoes, nowHeld, moved, withTask, withSem, withTasks, withSems}
 use Rattle.executive.proofs.SoundLaws.{used, task-at, sem-at, heir-below, Runs, runs-found, nobody-found, Stands, sem-found}

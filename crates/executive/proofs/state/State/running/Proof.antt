@@ -1,12 +1,12 @@
 -- `State::running` meets its contract: the number is that of the task that runs.
 -- Assumes nothing.
-use mathlib.Core.Path.{_≡_, sym, ap, _∙_}
+use mathlib.Core.Path.{sym, ap, _∙_}
 use native.Mathlib.Omega.{arith}
 use borrow.Author.Needs.{needs}
 use Rattle.table.specs.declared.Task.{Task}
 use Rattle.waits.specs.Standing.{numberAt}
 use Rattle.executive.specs.States.{tasksOf, semsOf}
-use Rattle.executive.proofs.SoundLaws.{used, task-at, Runs, runs-found, nobody-found}
+use Rattle.executive.proofs.SoundLaws.{used, task-at, Runs, runs-found}
 use Rattle.executive.proofs.state.State.running.Statement.{statement}
 use Rattle.executive.proofs.state.State.running.Tie as tie
 

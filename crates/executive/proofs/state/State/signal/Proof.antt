@@ -1,6 +1,6 @@
 -- `State::signal` meets its contract: what the number says of the task is what the refusal says of it.
 -- Assumes nothing.
-use mathlib.Core.Path.{ap, _∙_}
+use mathlib.Core.Path.{_∙_}
 use Rattle.executive.specs.Calls.{signalOf}
 use Rattle.executive.proofs.CallLaws.{signal-wakes}
 use Rattle.executive.proofs.state.State.signal.Statement.{statement}

@@ -1,9 +1,8 @@
 -- `State::standing` meets its contract: 20 where no task has the number, else the standing of that task as it is shown.
 -- Assumes nothing.
 use Prim.Native.Nat.{ℕ}
-use mathlib.Core.Path.{_≡_, refl, sym, ap, _∙_}
+use mathlib.Core.Path.{refl, sym, ap, _∙_}
 use mathlib.Core.List.{[]}
-use native.Mathlib.Omega.{arith}
 use borrow.Author.Tests.{eqb-false}
 use borrow.Author.Needs.{needs}
 use Rattle.table.specs.Places.{taskPlace}
