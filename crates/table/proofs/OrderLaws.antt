@@ -180,6 +180,10 @@ pub not-so : (b : Bool) → (b ≡ true → ⊥) → b ≡ false
 not-so true h = absurd (h refl)
 not-so false h = refl
 
+-- a bound that does not hold
+pub apart : (a b : ℕ) → a < b → b ≤ a → ⊥
+apart a b h k = omega arith
+
 -- fields that are not all in range
 pub task-out : (t : Task) → (TaskRange t → ⊥) → false ≡ taskInRange t
 task-out t h = sym (not-so (taskInRange t) (λ e. h (task-range t e)))
