@@ -4,12 +4,10 @@ ghost use mathlib.Core.Path.{_≡_};
 ghost use mathlib.Core.Bool.{not};
 ghost use mathlib.Core.List.{[], _∷_};
 ghost use Prim.Native.Nat.{_+_, _≤_};
-ghost use lib.Dec.{eqb};
 ghost use Rattle.table.specs.Refusals.{firstOf};
 ghost use Rattle.table.specs.Entries.{spanOf, withStatus, withDeadline};
 ghost use Rattle.executive.specs.Sound.{Sized, Sound};
-ghost use Rattle.waits.specs.Standing.{doingOf};
-ghost use Rattle.executive.specs.Wakes.{wakeOf};
+ghost use Rattle.executive.specs.Wakes.{notDoing, wakeOf};
 ghost use Rattle.executive.specs.Calls.{
   untimely,
   releaseOf,
@@ -27,7 +25,6 @@ use table::Status;
 use table::Task;
 use table::limits;
 use table::numbers;
-use waits::lookup;
 use waits::standing;
 
 // What a call hands back: the next state and a number of document 01.
@@ -38,7 +35,7 @@ pub struct Moved {
 
 // 20, 23, 22, or 0 where a release is accepted.
 fn release_refusal(known: bool, status: Status, last: u64, time: u64) -> u8
-    ensures { λ r. ⌜ r ≡ firstOf ((20, not known) ∷ (23, not (eqb (doingOf status) 0)) ∷ (22, untimely last time) ∷ []) ⌝ }
+    ensures { λ r. ⌜ r ≡ firstOf ((20, not known) ∷ (23, notDoing status 0) ∷ (22, untimely last time) ∷ []) ⌝ }
 {
     if !known {
         return numbers::UNKNOWN_TASK;
@@ -46,10 +43,7 @@ fn release_refusal(known: bool, status: Status, last: u64, time: u64) -> u8
     if standing::doing(status) != standing::IDLE {
         return numbers::NOT_IDLE;
     }
-    if time < last {
-        return numbers::TIME_REFUSED;
-    }
-    if time > limits::TIME_MOST {
+    if (time < last) | (limits::TIME_MOST < time) {
         return numbers::TIME_REFUSED;
     }
     numbers::DONE
@@ -66,7 +60,7 @@ fn released(t: Task, time: u64) -> Task
 
 // 20, the call's own number where the task does not do what is wanted, or 0 where a signal or withdrawal is accepted.
 fn wake_refusal(known: bool, status: Status, wanted: u8, number: u8) -> u8
-    ensures { λ r. ⌜ r ≡ firstOf ((20, not known) ∷ (number, not (eqb (doingOf status) wanted)) ∷ []) ⌝ }
+    ensures { λ r. ⌜ r ≡ firstOf ((20, not known) ∷ (number, notDoing status wanted) ∷ []) ⌝ }
 {
     if !known {
         return numbers::UNKNOWN_TASK;

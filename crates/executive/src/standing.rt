@@ -7,7 +7,6 @@ ghost use Rattle.executive.specs.Calls.{standsOf};
 use crate::state::State;
 use table::Found;
 use table::numbers;
-use waits::lookup;
 use waits::standing;
 
 // What standing answers: 0 or 20, and the queue, the deadline (0 in FP) and the position.

@@ -180,17 +180,6 @@ pub not-so : (b : Bool) → (b ≡ true → ⊥) → b ≡ false
 not-so true h = absurd (h refl)
 not-so false h = refl
 
--- a bound that does not hold
-pub apart : (a b : ℕ) → a < b → b ≤ a → ⊥
-apart a b h k = omega arith
-
--- fields that are not all in range
-pub task-out : (t : Task) → (TaskRange t → ⊥) → false ≡ taskInRange t
-task-out t h = sym (not-so (taskInRange t) (λ e. h (task-range t e)))
-
-pub board-out : (b : Board) → (BoardRange b → ⊥) → false ≡ boardInRange b
-board-out b h = sym (not-so (boardInRange b) (λ e. h (board-range b e)))
-
 -- the first two semaphores stand in order, and so do those behind
 rising : (x y : Sem) (rest : List Sem) → ordered semBefore (x ∷ y ∷ rest) ≡ true → (x .number < y .number) × (ordered semBefore (y ∷ rest) ≡ true)
 unfolding ordered semBefore

@@ -11,6 +11,8 @@ pub const RECORD: usize = 32;
 pub const IMAGE: usize = 4_096;
 
 // "The image": the ranges of the fields.
+pub const NUMBER_MOST: u16 = 65_535;
+
 pub const PERIOD_LEAST: u32 = 1_000;
 
 pub const PERIOD_MOST: u32 = 100_000_000;

@@ -1,6 +1,8 @@
-// The ranges of the fields, and the order of the entries (document 01, "The image").
+// The ranges of the fields, and the order of the entries (document 01, "The image"). Each is one test with no branch in
+// it, as the definitions have it.
 ghost use mathlib.Core.Path.{_≡_};
-ghost use Rattle.table.specs.WellFormed.{taskInRange, semInRange, boardInRange, taskBefore, semBefore};
+ghost use mathlib.Core.Bool.{_&&_};
+ghost use Rattle.table.specs.WellFormed.{within, taskInRange, semInRange, boardInRange, taskBefore, semBefore};
 use crate::Board;
 use crate::Sem;
 use crate::Task;
@@ -11,81 +13,53 @@ pub fn task_in_range(task: Task) -> bool
 {
     let queue = task.queue;
     match queue {
-        1..=3 => {
-            if task.number < 1 {
-                return false;
-            }
-            if task.period < limits::PERIOD_LEAST {
-                return false;
-            }
-            if task.period > limits::PERIOD_MOST {
-                return false;
-            }
-            if task.cost < 1 {
-                return false;
-            }
-            if task.cost > task.period {
-                return false;
-            }
-            true
-        }
+        1..=3 => fields_in_range(task),
         _ => false,
     }
+}
+
+// The number, the period and the cost.
+fn fields_in_range(task: Task) -> bool
+    ensures { λ r.
+        ⌜ r
+        ≡ (within 1 (task .number) 65535
+        && within 1000 (task .period) 100000000
+        && within 1 (task .cost) (task .period)) ⌝ }
+{
+    let number = (1 <= task.number) & (task.number <= limits::NUMBER_MOST);
+    let period = (limits::PERIOD_LEAST <= task.period) & (task.period <= limits::PERIOD_MOST);
+    let cost = (1 <= task.cost) & (task.cost <= task.period);
+    number & period & cost
 }
 
 pub fn sem_in_range(sem: Sem) -> bool
     ensures { λ r. ⌜ r ≡ semInRange sem ⌝ }
 {
-    sem.number >= 1
+    (1 <= sem.number) & (sem.number <= limits::NUMBER_MOST)
 }
 
 pub fn board_in_range(b: Board) -> bool
     ensures { λ r. ⌜ r ≡ boardInRange b ⌝ }
 {
-    if b.dp_block > limits::FIGURE_MOST {
-        return false;
-    }
-    if b.dp_unblock > limits::FIGURE_MOST {
-        return false;
-    }
-    if b.dp_select > limits::FIGURE_MOST {
-        return false;
-    }
-    if b.dp_select_task > limits::FIGURE_MOST {
-        return false;
-    }
-    if b.fp_block > limits::FIGURE_MOST {
-        return false;
-    }
-    if b.fp_block_task > limits::FIGURE_MOST {
-        return false;
-    }
-    if b.fp_unblock > limits::FIGURE_MOST {
-        return false;
-    }
-    if b.fp_select > limits::FIGURE_MOST {
-        return false;
-    }
-    if b.per_queue > limits::FIGURE_MOST {
-        return false;
-    }
-    true
+    let most = limits::FIGURE_MOST;
+    let dp = (b.dp_block <= most)
+        & (b.dp_unblock <= most)
+        & (b.dp_select <= most)
+        & (b.dp_select_task <= most);
+    dp
+        & (b.fp_block <= most)
+        & (b.fp_block_task <= most)
+        & (b.fp_unblock <= most)
+        & (b.fp_select <= most)
+        & (b.per_queue <= most)
 }
 
 // Tasks stand by rising period, equal periods by rising number, queues never falling.
 pub fn task_before(a: Task, b: Task) -> bool
     ensures { λ r. ⌜ r ≡ taskBefore a b ⌝ }
 {
-    if a.queue > b.queue {
-        return false;
-    }
-    if a.period < b.period {
-        return true;
-    }
-    if a.period > b.period {
-        return false;
-    }
-    a.number < b.number
+    (a.queue <= b.queue)
+        & ((a.period < b.period) | ((a.period == b.period) & (a.number < b.number)))
 }
 
 // Semaphores stand by rising number.

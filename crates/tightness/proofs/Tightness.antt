@@ -52,10 +52,10 @@ use Rattle.table.proofs.ranges.task_before.Reads as task-before
 use Rattle.table.proofs.ranges.task_before.Kinds as task-before-kinds
 use Rattle.table.proofs.ranges.sem_before.Reads as sem-before
 use Rattle.table.proofs.ranges.sem_before.Kinds as sem-before-kinds
-use Rattle.waits.proofs.lookup.task_place.Reads as waits-task-place
-use Rattle.waits.proofs.lookup.task_place.Kinds as waits-task-place-kinds
-use Rattle.waits.proofs.lookup.sem_place.Reads as waits-sem-place
-use Rattle.waits.proofs.lookup.sem_place.Kinds as waits-sem-place-kinds
+use Rattle.lookup.proofs.task_place.Reads as lookup-task-place
+use Rattle.lookup.proofs.task_place.Kinds as lookup-task-place-kinds
+use Rattle.lookup.proofs.sem_place.Reads as lookup-sem-place
+use Rattle.lookup.proofs.sem_place.Kinds as lookup-sem-place-kinds
 use Rattle.waits.proofs.standing.doing.Reads as waits-doing
 use Rattle.waits.proofs.standing.doing.Kinds as waits-doing-kinds
 use Rattle.waits.proofs.standing.holds_it.Reads as waits-holds-it
@@ -227,13 +227,13 @@ task-before-one κs a z z′ e e′ p q = p ∙ sym q
 pub sem-before-one : OneResult 0 sem-before-kinds.ps sem-before-kinds.r sem-before.Post
 sem-before-one κs a z z′ e e′ p q = p ∙ sym q
 
--- waits::lookup::task_place
-pub waits-task-place-one : OneResult 0 waits-task-place-kinds.ps waits-task-place-kinds.r waits-task-place.Post
-waits-task-place-one κs a z z′ e e′ p q = p ∙ sym q
+-- lookup::task_place
+pub lookup-task-place-one : OneResult 0 lookup-task-place-kinds.ps lookup-task-place-kinds.r lookup-task-place.Post
+lookup-task-place-one κs a z z′ e e′ p q = p ∙ sym q
 
--- waits::lookup::sem_place
-pub waits-sem-place-one : OneResult 0 waits-sem-place-kinds.ps waits-sem-place-kinds.r waits-sem-place.Post
-waits-sem-place-one κs a z z′ e e′ p q = p ∙ sym q
+-- lookup::sem_place
+pub lookup-sem-place-one : OneResult 0 lookup-sem-place-kinds.ps lookup-sem-place-kinds.r lookup-sem-place.Post
+lookup-sem-place-one κs a z z′ e e′ p q = p ∙ sym q
 
 -- waits::standing::doing
 pub waits-doing-one : OneResult 0 waits-doing-kinds.ps waits-doing-kinds.r waits-doing.Post

@@ -1,6 +1,6 @@
 -- `calls::release_refusal` meets its contract: each return goes with the tests that led there.
 -- Assumes nothing.
-use borrow.Author.Tests.{lt-ltb, le-ltb, eq-eqb, ne-eqb}
+use borrow.Author.Tests.{eq-eqb, ne-eqb}
 use borrow.Author.Needs.{needs}
 use Rattle.table.specs.Refusals.{firstOf}
 use Rattle.executive.specs.Calls.{untimely}
@@ -20,19 +20,11 @@ returns-2 c = rw (c .before .before .if1 .left, ← c .before .doing .ensures, n
 
 returns-3 : tie.Need-returns-3
 unfolding firstOf untimely
-returns-3 c = rw (c .before .before .before .if1 .left, ← c .before .before .doing .ensures, eq-eqb _ _ (c .before .if2 .left), lt-ltb _ _ (c .if3 .taken))
+returns-3 c = rw (c .before .before .before .if1 .left, ← c .before .before .doing .ensures, eq-eqb _ _ (c .before .if2 .left), c .if3 .taken)
 
 returns-4 : tie.Need-returns-4
 unfolding firstOf untimely
-returns-4 c =
-    rw
-    (c .before .before .before .before .if1 .left, ← c .before .before .before .doing .ensures, eq-eqb _ _ (c .before .before .if2 .left), le-ltb _ _ (c .before .if3 .left), lt-ltb _ _ (c .if4 .taken))
-
-returns-5 : tie.Need-returns-5
-unfolding firstOf untimely
-returns-5 c =
-    rw
-    (c .before .before .before .before .if1 .left, ← c .before .before .before .doing .ensures, eq-eqb _ _ (c .before .before .if2 .left), le-ltb _ _ (c .before .if3 .left), le-ltb _ _ (c .if4 .left))
+returns-4 c = rw (c .before .before .before .if1 .left, ← c .before .before .doing .ensures, eq-eqb _ _ (c .before .if2 .left), c .if3 .left)
 
 pub release-refusal-spec : {M : Type 1} → statement M
-release-refusal-spec = tie.close (tie.spec returns doing-requires returns-2 returns-3 returns-4 returns-5)
+release-refusal-spec = tie.close (tie.spec returns doing-requires returns-2 returns-3 returns-4)

@@ -1,4 +1,4 @@
--- `table::ranges::sem_before` meets its contract: by number.
+-- `ranges::sem_before` meets its contract: the code is the definition.
 -- Assumes nothing.
 use mathlib.Core.Path.{refl}
 use Rattle.table.specs.WellFormed.{semBefore}

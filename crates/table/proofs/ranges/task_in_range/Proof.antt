@@ -1,48 +1,30 @@
--- `table::ranges::task_in_range` meets its contract: each test is one bound of a field.
+-- `ranges::task_in_range` meets its contract: the queue by the arm, the other fields by the helper.
 -- Assumes nothing.
-use mathlib.Core.Path.{sym}
 use native.Mathlib.Omega.{arith}
-use Rattle.table.proofs.OrderLaws.{apart, task-in-range, task-out}
+use borrow.Author.Needs.{needs}
+use borrow.Author.Tests.{le-leb, lt-leb}
+use Rattle.table.specs.WellFormed.{within, taskInRange}
 use Rattle.table.proofs.ranges.task_in_range.Statement.{statement}
 use Rattle.table.proofs.ranges.task_in_range.Tie as tie
 
+fields-in-range-requires : tie.Need-fields-in-range-requires
+fields-in-range-requires c κs = search needs
+
 returns : tie.Need-returns
-returns c = task-out (c .before .before .before .before .args .task) (λ r. apart _ _ (c .if3 .taken) (r .numberLeast))
+unfolding taskInRange within
+returns c =
+    let q = c .before .before .before .args .task .queue in
+    rw (le-leb 1 q (omega arith), le-leb q 3 (omega arith)) (c .fields-in-range .ensures)
 
 returns-2 : tie.Need-returns-2
-returns-2 c = task-out (c .before .before .before .before .before .before .args .task) (λ r. apart _ _ (c .if4 .taken) (r .periodLeast))
+unfolding taskInRange within
+returns-2 c = rw (lt-leb 1 (c .before .args .task .queue) (omega arith))
 
 returns-3 : tie.Need-returns-3
-returns-3 c = task-out (c .before .before .before .before .before .before .before .before .args .task) (λ r. apart _ _ (c .if5 .taken) (r .periodMost))
-
-returns-4 : tie.Need-returns-4
-returns-4 c = task-out (c .before .before .before .before .before .before .before .before .before .before .args .task) (λ r. apart _ _ (c .if6 .taken) (r .costLeast))
-
-returns-5 : tie.Need-returns-5
-returns-5 c = task-out (c .before .before .before .before .before .before .before .before .before .before .before .before .args .task) (λ r. apart _ _ (c .if7 .taken) (r .costMost))
-
-returns-6 : tie.Need-returns-6
-returns-6 c =
-    sym
-    (task-in-range (c .before .before .before .before .before .before .before .before .before .before .before .before .args .task)
-    (record {
-      queueLeast = omega arith;
-      queueMost = omega arith;
-      numberLeast = c .before .before .before .before .before .before .before .before .if3 .left;
-      numberMost = omega arith;
-      periodLeast = c .before .before .before .before .before .before .if4 .left;
-      periodMost = c .before .before .before .before .if5 .left;
-      costLeast = c .before .before .if6 .left;
-      costMost = c .if7 .left;
-    }))
-
-returns-7 : tie.Need-returns-7
-returns-7 c = task-out (c .before .args .task) (λ r. omega arith)
-
-returns-8 : tie.Need-returns-8
-returns-8 c = task-out (c .before .before .args .task) (λ r. omega arith)
+unfolding taskInRange within
+returns-3 c =
+    let q = c .before .before .args .task .queue in
+    rw (le-leb 1 q (omega arith), lt-leb q 3 (omega arith))
 
 pub task-in-range-spec : {M : Type 1} → statement M
-task-in-range-spec =
-    tie.close
-    (tie.spec returns returns-2 returns-3 returns-4 returns-5 returns-6 returns-7 returns-8)
+task-in-range-spec = tie.close (tie.spec fields-in-range-requires returns returns-2 returns-3)

@@ -9,8 +9,8 @@ use borrow.Author.Needs.{needs}
 use Rattle.table.specs.Entries.{blankSem}
 use Rattle.table.specs.Places.{semPlace}
 use Rattle.table.proofs.PlaceLaws.{Come, come-hit, come-miss, come-end}
-use Rattle.waits.proofs.lookup.sem_place.Statement.{statement}
-use Rattle.waits.proofs.lookup.sem_place.Tie as tie
+use Rattle.lookup.proofs.sem_place.Statement.{statement}
+use Rattle.lookup.proofs.sem_place.Tie as tie
 
 abbrev Inv-loop : tie.InvT-loop
 Inv-loop m number sems k₀ k = (k ≤ m) × Come (λ s. eqb (s .number) number) sems m k

@@ -8,8 +8,8 @@ use borrow.Author.Tests.{eq-eqb, ne-eqb}
 use borrow.Author.Needs.{needs}
 use Rattle.table.specs.Places.{taskPlace}
 use Rattle.table.proofs.PlaceLaws.{Come, come-hit, come-miss, come-end}
-use Rattle.waits.proofs.lookup.task_place.Statement.{statement}
-use Rattle.waits.proofs.lookup.task_place.Tie as tie
+use Rattle.lookup.proofs.task_place.Statement.{statement}
+use Rattle.lookup.proofs.task_place.Tie as tie
 
 abbrev Inv-loop : tie.InvT-loop
 Inv-loop n number tasks i₀ i = (i ≤ n) × Come (λ t. eqb (t .number) number) tasks n i
