@@ -59,7 +59,9 @@ class Build(Bench):
 
     def start(self, *words, **how):
         pipes = {"stdin": subprocess.DEVNULL, "stdout": subprocess.PIPE, "stderr": subprocess.PIPE}
-        return subprocess.Popen([os.path.join(self.tree, "rack"), *words], env=self.environment, **{**pipes, **how})
+        # where the tests run in the background an interrupt would be ignored
+        heard = {"preexec_fn": lambda: signal.signal(signal.SIGINT, signal.SIG_DFL)}
+        return subprocess.Popen([os.path.join(self.tree, "rack"), *words], env=self.environment, **{**pipes, **heard, **how})
 
     @contextmanager
     def held(self, *words, **how):
