@@ -1,4 +1,5 @@
-// The bench figures of document 01 that are run and compared, and not proved: each line that is printed stands in the file stdout.
+// The bench figures of document 01 that are run and compared, and not proved: each line that is printed stands in the
+// file stdout.
 ghost use Prim.Native.Nat.{_≤_};
 ghost use lib.ListN.{length};
 use libc::STDOUT_FILENO;

@@ -1,17 +1,12 @@
 // The calls alone, so that their instructions can be counted: reads an image of 4,096 bytes and a script of at most 256
 // records from standard input, makes the calls one after the other, and prints the sum of what they answer.
-ghost use Prim.Native.Nat.{_+_, _≤_};
+ghost use Prim.Native.Nat.{_≤_};
 ghost use lib.ListN.{length};
-ghost use Rattle.executive.specs.Sound.{Sound};
-use executive::calls::Moved;
-use executive::state::State;
 use libc::STDIN_FILENO;
 use libc::STDOUT_FILENO;
+use rack::play;
 
-// A record of a script: byte 0 the call, 2 and 3 a number, 8 to 15 a time, as include/rack.h has it. 8 asks for the
-// running task and 9 for a standing; 0 is no call.
-const CALL: usize = 16;
-
+// A record of a script is as include/rack.h has it, and 8 asks for the running task, 9 for a standing; 0 is no call.
 const RECORDS: usize = 256;
 
 fn main() {
@@ -31,7 +26,7 @@ fn sum_of(image: &[u8], script: &[u8]) -> u64
     let mut sum: u64 = 0;
     let mut i: usize = 0;
     while i < RECORDS {
-        let at = i * CALL;
+        let at = i * play::CALL;
         match script[at] {
             0 => {}
             8 => {
@@ -42,7 +37,7 @@ fn sum_of(image: &[u8], script: &[u8]) -> u64
                 sum += stands.queue as u64;
             }
             _ => {
-                let moved = made(state, script, at);
+                let moved = play::play_one(state, script, at);
                 sum += moved.answer as u64;
                 let next = moved.state;
                 state = next;
@@ -51,22 +46,4 @@ fn sum_of(image: &[u8], script: &[u8]) -> u64
         i += 1;
     }
     sum
-}
-
-// The call that the record at a place names.
-fn made(state: State, script: &[u8], at: usize) -> Moved
-    requires { ⌜ Sound state × (at + 16 ≤ length (now script)) ⌝ }
-    ensures { λ r. ⌜ Sound (r .state) ⌝ }
-{
-    let number = fields::u16_at(script, at + 2);
-    match script[at] {
-        1 => state.release(number, fields::u64_at(script, at + 8)),
-        2 => state.signal(number),
-        3 => state.withdraw(number),
-        4 => state.acquire(number),
-        5 => state.give(number),
-        6 => state.complete(),
-        7 => state.block(),
-        _ => Moved { state, answer: 0 },
-    }
 }

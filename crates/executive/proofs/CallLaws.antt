@@ -21,7 +21,8 @@ use Rattle.table.proofs.SumLaws.{any-none}
 use Rattle.table.proofs.RefusalLaws.{answered-refused, answered-done, firstOf-here, firstOf-past, firstOf-zero}
 use Rattle.table.proofs.PlaceLaws.{Come, come-hit, come-miss, come-past, come-end}
 use Rattle.waits.specs.Waits.{taskAt, semAt, waitsFor, heldBy}
-use Rattle.waits.specs.Standing.{foundAnd, foundOr, isNone, isEvent, doingOf, holdsIt, stillHolds}
+use Rattle.waits.specs.Standing.{foundAnd, foundOr, isNone, isEvent, holdsIt, stillHolds}
+use Rattle.waits.specs.Doing.{doingOf}
 use Rattle.waits.proofs.StandingLaws.{doing-is}
 use Rattle.executive.specs.declared.state.State.{State}
 use Rattle.executive.specs.States.{tasksOf}

@@ -172,15 +172,15 @@ impl State {
         ensures { λ r. ⌜ r ≡ blockOf self ⌝ }
     {
         let runs = standing::running(self.tasks, self.n, self.sems, self.m);
-        let mut answer = numbers::NOBODY_RUNS;
+        let mut number = numbers::NOBODY_RUNS;
         if let Found::At(i) = runs {
             let t = self.tasks[i];
             self.tasks[i] = t.with_status(Status::Event);
-            answer = numbers::DONE;
+            number = numbers::DONE;
         }
         Moved {
             state: self,
-            answer,
+            answer: number,
         }
     }
 

@@ -4,11 +4,18 @@ ghost use Prim.Native.Nat.{_+_, _≤_};
 ghost use lib.ListN.{length, replicate};
 ghost use Rattle.fields.specs.Fields.{readAt, putAt, allAre};
 
+// A byte as a wider number.
+fn wide(byte: u8) -> u16
+    ensures { λ r. ⌜ (r ≡ byte) × (r ≤ 255) ⌝ }
+{
+    byte as u16
+}
+
 pub fn u16_at(s: &[u8], at: usize) -> u16
     requires { ⌜ at + 2 ≤ length (now s) ⌝ }
     ensures { λ r. ⌜ r ≡ readAt 2 (now (s .entry)) at ⌝ }
 {
-    (s[at] as u16) + (s[at + 1] as u16) * 256
+    wide(s[at]) + wide(s[at + 1]) * 256
 }
 
 pub fn u32_at(s: &[u8], at: usize) -> u32

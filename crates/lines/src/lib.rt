@@ -56,7 +56,8 @@ pub fn put_numbers(out: &mut [u8], at: usize, numbers: &[u64]) -> usize
 // Puts a line: a word, the numbers, and the line's end.
 pub fn put_line(out: &mut [u8], at: usize, word: &[u8], numbers: &[u64]) -> usize
     requires { ⌜ at + length (now word) + 21 * length (now numbers) + 1 ≤ length (now out) ⌝ }
-    ensures { λ r. ⌜ Put (now (out .entry)) at (lineOf (now (word .entry)) (now (numbers .entry))) (now (out .exit)) r ⌝ }
+    ensures { λ r.
+        ⌜ Put (now (out .entry)) at (lineOf (now (word .entry)) (now (numbers .entry))) (now (out .exit)) r ⌝ }
 {
     let behind_word = put_word(out, at, word);
     let end = put_numbers(out, behind_word, numbers);

@@ -21,16 +21,10 @@ use Rattle.charges.specs.declared.Counts.{Counts}
 use Rattle.charges.specs.Charges.{chargeBy}
 use Rattle.rack.specs.Boundary.{headBytes, entryBytes, entriesBy, playedPart}
 
-pub entry-bytes : (number queue charge : ℕ)
-    → putAt 8 (number % 256 ∷ number / 256 % 256 ∷ queue ∷ replicate 13 0) 8 charge ≡ entryBytes number queue charge
-unfolding putAt entryBytes bytesOf
-entry-bytes number queue charge = refl
-
-pub part-bytes : (answer running : ℕ) (s : Stands)
-    → putAt 8 (answer ∷ 0 ∷ running % 256 ∷ running / 256 % 256 ∷ s .number ∷ s .queue ∷ s .position ∷ replicate 25 0) 8 (s .deadline)
-    ≡ playedPart answer running s
-unfolding putAt playedPart bytesOf
-part-bytes answer running s = refl
+-- a number put into eight bytes is its bytes
+pub eight-bytes : (value : ℕ) → putAt 8 (replicate 8 0) 0 value ≡ bytesOf 8 value
+unfolding putAt bytesOf
+eight-bytes value = refl
 
 pub entry-long : (number queue charge : ℕ) → length (entryBytes number queue charge) ≡ 16
 unfolding entryBytes bytesOf

@@ -2,4 +2,5 @@
 // declares it for C.
 pub mod play;
 pub mod rewrite;
+mod rows;
 pub mod verdict;

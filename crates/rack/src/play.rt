@@ -5,6 +5,7 @@ ghost use lib.ListN.{length};
 ghost use Rattle.lines.specs.Lines.{Put};
 ghost use Rattle.executive.specs.Sound.{Sound};
 ghost use Rattle.rack.specs.Boundary.{Played, playedPart, playFrom, calledBy};
+use crate::rows;
 use executive::calls::Moved;
 use executive::standing::Stands;
 use executive::state::State;
@@ -41,7 +42,8 @@ pub extern "C" fn rack_play(image: &[u8], script: &[u8], out: &mut [u8]) -> u64
 // Each record in its turn. The state is kept where a call is refused, so that only an accepted one copies it back.
 fn play_all(from: State, script: &[u8], out: &mut [u8], count: usize)
     requires { ⌜ Sound from × (count * 16 ≤ length (now script)) × (count * 32 ≤ length (now out)) ⌝ }
-    ensures { λ r. ⌜ Put (now (out .entry)) 0 (playFrom from (now (script .entry)) 0 count) (now (out .exit)) (count * 32) ⌝ }
+    ensures { λ r.
+        ⌜ Put (now (out .entry)) 0 (playFrom from (now (script .entry)) 0 count) (now (out .exit)) (count * 32) ⌝ }
 {
     let mut state = from;
     let mut i: usize = 0;
@@ -63,7 +65,7 @@ fn play_all(from: State, script: &[u8], out: &mut [u8], count: usize)
 }
 
 // The call that the record at a place names, on a state.
-fn play_one(state: State, script: &[u8], at: usize) -> Moved
+pub fn play_one(state: State, script: &[u8], at: usize) -> Moved
     requires { ⌜ Sound state × (at + 16 ≤ length (now script)) ⌝ }
     ensures { λ r. ⌜ r ≡ calledBy state (now (script .entry)) at ⌝ }
 {
@@ -84,18 +86,21 @@ fn play_one(state: State, script: &[u8], at: usize) -> Moved
     }
 }
 
-// What one record answers.
+// What one record answers: two rows, the second of them zero.
 fn put_part(out: &mut [u8], at: usize, answer: u8, running: u16, stands: Stands) -> usize
     requires { ⌜ at + 32 ≤ length (now out) ⌝ }
     ensures { λ r. ⌜ Put (now (out .entry)) at (playedPart answer running stands) (now (out .exit)) r ⌝ }
 {
-    let mut part = [0u8; 32];
-    part[0] = answer;
-    part[2] = (running % 256) as u8;
-    part[3] = (running / 256 % 256) as u8;
-    part[4] = stands.number;
-    part[5] = stands.queue;
-    part[6] = stands.position;
-    fields::put_u64(&mut part, 8, stands.deadline);
-    lines::put_word(out, at, &part)
+    let front = [
+        answer,
+        0,
+        (running % 256) as u8,
+        (running / 256 % 256) as u8,
+        stands.number,
+        stands.queue,
+        stands.position,
+        0,
+    ];
+    let end = rows::put_row(out, at, front, stands.deadline);
+    rows::put_row(out, end, [0u8; 8], 0)
 }

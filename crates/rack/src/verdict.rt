@@ -6,6 +6,7 @@ ghost use Rattle.lines.specs.Lines.{Put};
 ghost use Rattle.executive.specs.States.{tasksOf};
 ghost use Rattle.executive.specs.Sound.{Sound};
 ghost use Rattle.rack.specs.Boundary.{Judged, headBytes, entryBytes, entriesBytes};
+use crate::rows;
 use charges::Counts;
 use executive::state::State;
 use table::numbers;
@@ -65,7 +66,9 @@ fn put_head(out: &mut [u8], number: u8, verdict: u8, place: u64, task: u64, n: u
 // An entry of 16 bytes for each task.
 fn put_entries(out: &mut [u8], state: State) -> usize
     requires { ⌜ Sound state × (1032 ≤ length (now out)) ⌝ }
-    ensures { λ r. ⌜ Put (now (out .entry)) 8 (entriesBytes (tasksOf state) (state .board)) (now (out .exit)) r × (r ≡ 8 + 16 * state .n) ⌝ }
+    ensures { λ r.
+        ⌜ Put (now (out .entry)) 8 (entriesBytes (tasksOf state) (state .board)) (now (out .exit)) r
+        × (r ≡ 8 + 16 * state .n) ⌝ }
 {
     let tasks = state.tasks;
     let n = state.n;
@@ -85,12 +88,17 @@ fn put_entry(out: &mut [u8], at: usize, number: u64, queue: u8, charge: u64) -> 
     requires { ⌜ at + 16 ≤ length (now out) ⌝ }
     ensures { λ r. ⌜ Put (now (out .entry)) at (entryBytes number queue charge) (now (out .exit)) r ⌝ }
 {
-    let mut entry = [0u8; 16];
-    entry[0] = (number % 256) as u8;
-    entry[1] = (number / 256 % 256) as u8;
-    entry[2] = queue;
-    fields::put_u64(&mut entry, 8, charge);
-    lines::put_word(out, at, &entry)
+    let front = [
+        (number % 256) as u8,
+        (number / 256 % 256) as u8,
+        queue,
+        0,
+        0,
+        0,
+        0,
+        0,
+    ];
+    rows::put_row(out, at, front, charge)
 }
 
 // The rest of the 1,032 bytes is zero.

@@ -36,7 +36,8 @@ pub fn report(image: &[u8], out: &mut [u8]) -> usize
 // A line for each task: `task`, number, queue, charge.
 fn put_tasks(state: State, out: &mut [u8]) -> usize
     requires { ⌜ Sound state × (4352 ≤ length (now out)) ⌝ }
-    ensures { λ r. ⌜ Put (now (out .entry)) 0 (taskLines (tasksOf state) (state .board)) (now (out .exit)) r × (r ≤ 4352) ⌝ }
+    ensures { λ r.
+        ⌜ Put (now (out .entry)) 0 (taskLines (tasksOf state) (state .board)) (now (out .exit)) r × (r ≤ 4352) ⌝ }
 {
     let tasks = state.tasks;
     let n = state.n;

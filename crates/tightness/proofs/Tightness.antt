@@ -112,6 +112,8 @@ use Rattle.judging.proofs.judge.judge.Reads as judge
 use Rattle.judging.proofs.judge.judge.Kinds as judge-kinds
 use Rattle.report.proofs.report.Reads as report
 use Rattle.report.proofs.report.Kinds as report-kinds
+use Rattle.rack.proofs.play.play_one.Reads as play-one
+use Rattle.rack.proofs.play.play_one.Kinds as play-one-kinds
 use Rattle.rack.proofs.play.rack_play.Reads as rack-play
 use Rattle.rack.proofs.play.rack_play.Kinds as rack-play-kinds
 use Rattle.rack.proofs.rewrite.rack_rewrite.Reads as rack-rewrite
@@ -359,6 +361,10 @@ rack-play-one κs a z z′ e e′ p q = p .number ∙ sym (q .number)
 
 pub rack-play-buffer : OneAtExit 3 rack-play-kinds.ps rack-play-kinds.r rack-play.Post (λ κs e. now (e .1 .1 .0))
 rack-play-buffer κs a z z′ e e′ p q = p .contents ∙ sym (q .contents)
+
+-- rack::play::play_one
+pub play-one-one : OneResult 1 play-one-kinds.ps play-one-kinds.r play-one.Post
+play-one-one κs a z z′ e e′ p q = p ∙ sym q
 
 -- rack::rewrite::rack_rewrite
 pub rack-rewrite-one : OneResult 2 rack-rewrite-kinds.ps rack-rewrite-kinds.r rack-rewrite.Post

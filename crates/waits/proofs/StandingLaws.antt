@@ -19,7 +19,8 @@ use Rattle.waits.specs.declared.scan.Goal.{Goal}
 use Rattle.waits.specs.declared.scan.Goal.the-variants.{Is, WaitsFor}
 use Rattle.waits.specs.declared.scan.Best.{Best}
 use Rattle.waits.specs.Waits.{taskAt, semAt, waitsFor, heldBy, Chained}
-use Rattle.waits.specs.Standing.{foundAnd, foundOr, ownOf, reaches, bestAmong, standingOf, isIdle, isReady, isEvent, doingOf, isNone, readyAt, waiterAt, runningOf, heirOf, closesRing}
+use Rattle.waits.specs.Standing.{foundAnd, foundOr, ownOf, reaches, bestAmong, standingOf, isIdle, isReady, isEvent, isNone, readyAt, waiterAt, runningOf, heirOf, closesRing}
+use Rattle.waits.specs.Doing.{doingOf}
 use Rattle.waits.specs.Reaches.{Reaches}
 use Rattle.waits.specs.Scan.{takes, takenAt, onward, meets, metBy, semCode, metCode, winnerOf, bestFor, noBest, asBest, metFound, scanOf, walked, ledBy, Linked}
 use Rattle.waits.proofs.RankLaws.{better-total, own-once, IsBest, best-is, best-none, best-some, best-nothing, best-only, best-same}

@@ -85,13 +85,6 @@ isEvent Ready = false
 isEvent Event = true
 isEvent (Waits k) = false
 
--- the same as a number, in this order
-unfoldable pub doingOf : Status → ℕ
-doingOf Idle = 0
-doingOf Ready = 1
-doingOf Event = 2
-doingOf (Waits k) = 3
-
 -- the task at a position is ready
 unfoldable pub readyAt : List Task → ℕ → Bool
 readyAt tasks i = isReady ((taskAt tasks i) .status)

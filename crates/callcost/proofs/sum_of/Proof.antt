@@ -3,6 +3,7 @@
 use Prim.Native.Nat.{ℕ, _+_, _*_, _-_, _≤_, _<_}
 use mathlib.Core.Path.{_≡_, sym, subst}
 use mathlib.Core.Logic.{⊎-elim}
+use mathlib.Core.List.{List}
 use native.Mathlib.Omega.{arith}
 use denote.Ref.{now}
 use borrow.Author.Needs.{needs}
@@ -10,6 +11,9 @@ use Rattle.executive.specs.declared.state.State.{State}
 use Rattle.executive.specs.Sound.{Sound}
 use Rattle.image.specs.declared.load.Loaded.{Loaded}
 use Rattle.image.proofs.RoundTrips.{loaded-sound}
+use Rattle.executive.specs.declared.calls.Moved.{Moved}
+use Rattle.rack.specs.Boundary.{calledBy}
+use Rattle.rack.proofs.PlayLaws.{called-sound}
 use Rattle.callcost.proofs.sum_of.Statement.{statement}
 use Rattle.callcost.proofs.sum_of.Tie as tie
 
@@ -17,6 +21,10 @@ use Rattle.callcost.proofs.sum_of.Tie as tie
 kept : (s s′ : State) (sum sum′ i : ℕ) → Sound s → s′ ≡ s → i < 256 → sum ≤ i * 65535 → sum′ ≤ sum + 65535
     → Sound s′ × (i + 1 ≤ 256) × (sum′ ≤ (i + 1) * 65535)
 kept s s′ sum sum′ i sound e h u r = (subst Sound (sym e) sound, omega arith, omega arith)
+
+-- what a call handed back is sound
+played : (s : State) (script : List ℕ) (at : ℕ) (r : Moved) → Sound s → r ≡ calledBy s script at → Sound (r .state)
+played s script at r sound e = subst (λ (m : Moved). Sound (m .state)) (sym e) (called-sound s script at sound)
 
 abbrev Inv-loop : tie.InvT-loop
 Inv-loop image script state₀ sum₀ i₀ state sum i = Sound state × (i ≤ 256) × (sum ≤ i * 65535)
@@ -66,8 +74,8 @@ cast-sum-2 c = search needs
 add-sum-2 : tie.Need-add-sum-2 Inv-loop μ-loop
 add-sum-2 c = search needs
 
-made-requires : tie.Need-made-requires Inv-loop μ-loop
-made-requires c κs = let p = c .before .before .before .before .before .before .before .before .pre in (c .before .before .before .loop .inv .0, omega arith)
+play-one-requires : tie.Need-play-one-requires Inv-loop μ-loop
+play-one-requires c κs = let p = c .before .before .before .before .before .before .before .before .pre in (c .before .before .before .loop .inv .0, omega arith)
 
 cast-sum-3 : tie.Need-cast-sum-3 Inv-loop μ-loop
 cast-sum-3 c = search needs
@@ -95,7 +103,7 @@ loop-again c =
     (λ w. let e : c .match .sum ≡ l .sum + w .2 .result .queue = w .5 in
     kept (l .state) (c .match .state) (l .sum) (c .match .sum) (l .i) (l .inv .0) (w .4) h u (omega arith))
     (λ w. let e : c .match .sum ≡ l .sum + w .1 .result .answer = w .5 in
-    kept (w .1 .result .state) (c .match .state) (l .sum) (c .match .sum) (l .i) (w .1 .ensures) (w .4) h u (omega arith))))
+    kept (w .1 .result .state) (c .match .state) (l .sum) (c .match .sum) (l .i) (played (l .state) _ _ (w .1 .result) (l .inv .0) (w .1 .ensures)) (w .4) h u (omega arith))))
     (c .match .came)
 
 returns : tie.Need-returns Inv-loop μ-loop
@@ -119,7 +127,7 @@ sum-of-spec =
     standing-requires
     cast-sum-2
     add-sum-2
-    made-requires
+    play-one-requires
     cast-sum-3
     add-sum-3
     add-i

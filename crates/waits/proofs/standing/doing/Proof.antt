@@ -1,7 +1,7 @@
 -- `standing::doing` meets its contract: by what the task does.
 -- Assumes nothing.
 use borrow.Author.Needs.{needs}
-use Rattle.waits.specs.Standing.{doingOf}
+use Rattle.waits.specs.Doing.{doingOf}
 use Rattle.waits.proofs.standing.doing.Statement.{statement}
 use Rattle.waits.proofs.standing.doing.Tie as tie
 

@@ -33,7 +33,7 @@ mul-result : tie.Need-mul-result
 mul-result c = omega (arith, runs c .fits)
 
 element-copy-out-result : tie.Need-element-copy-out-result
-element-copy-out-result c = runs c .fits
+element-copy-out-result c = omega (arith, runs c .fits)
 
 returns-2 : tie.Need-returns-2
 unfolding numberAt tasksOf semsOf

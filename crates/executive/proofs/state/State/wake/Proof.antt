@@ -10,7 +10,7 @@ use borrow.Author.Needs.{needs}
 use Rattle.table.specs.declared.Task.{Task}
 use Rattle.table.specs.declared.Status.the-variants.{Ready}
 use Rattle.table.specs.Entries.{withStatus}
-use Rattle.waits.specs.Standing.{doingOf}
+use Rattle.waits.specs.Doing.{doingOf}
 use Rattle.executive.specs.Calls.{nowDoes, moved, withTask, withTasks}
 use Rattle.executive.proofs.CallLaws.{Seeks, seeks-more, seeks-none, seeks-refused, seeks-done}
 use Rattle.executive.proofs.state.State.wake.Statement.{statement}
