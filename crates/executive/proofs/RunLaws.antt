@@ -1,95 +1,96 @@
--- The laws of the calls that name a semaphore: one for each way that their refusals go.
+-- The laws of the calls that name a semaphore: who asks for which one, and each way that their refusals go.
 -- Assumes nothing.
 use Prim.Native.Nat.{ℕ}
-use mathlib.Core.Path.{_≡_, refl, ap, _∙_}
+use mathlib.Core.Path.{_≡_, refl, sym, ap, _∙_}
+use mathlib.Core.Logic.{_≢_}
 use mathlib.Core.Bool.{Bool, true, false}
 use mathlib.Core.List.{List, [], _∷_}
 use borrow.Author.Tests.{eqb-false}
 use Rattle.table.specs.declared.Found.{Found}
 use Rattle.table.specs.declared.Found.the-variants.{At, Nothing}
-use Rattle.table.specs.Refusals.{firstOf}
+use Rattle.table.specs.Refusals.{firstOf, answered}
 use Rattle.table.specs.Places.{semPlace}
-use Rattle.table.proofs.RefusalLaws.{firstOf-here, firstOf-past, firstOf-none}
-use Rattle.waits.specs.Standing.{foundAnd, foundOr, isNone, runningOf, closesRing}
+use Rattle.table.proofs.RefusalLaws.{answered-refused}
+use Rattle.waits.specs.Standing.{foundAnd, foundOr, isNone, runningOf}
 use Rattle.executive.specs.declared.state.State.{State}
+use Rattle.executive.specs.declared.calls.Moved.{Moved}
+use Rattle.executive.specs.declared.calls.Asks.{Asks}
 use Rattle.executive.specs.States.{tasksOf, semsOf}
-use Rattle.executive.specs.Calls.{moved, notHeld, acquireAt, giveAt, acquireOf, giveOf}
-use Rattle.executive.proofs.CallLaws.{call-none, call-refused, call-done}
+use Rattle.executive.specs.Sound.{Sound}
+use Rattle.executive.specs.Calls.{moved}
+use Rattle.executive.specs.Asking.{asksBy, askedOf}
+use Rattle.executive.proofs.SoundLaws.{Runs, runs-found, Stands, sem-found}
 
--- the two first tests of a call that names a semaphore: who runs, and where the semaphore stands
-module _ (s : State) (number : ℕ) where
-  two : (k j : ℕ) (test : Bool) (at : Found) → at ≡ At k → test ≡ false → firstOf ((21, isNone at) ∷ (j, test) ∷ []) ≡ 0
-  unfolding isNone foundAnd
-  two k j test at e t = rw (e, t) (firstOf-past 21 false ((j, false) ∷ []) refl ∙ firstOf-past j false [] refl ∙ firstOf-none)
+-- who asks for which semaphore, by what was found
+pub asks-nobody : (runs at : Found) → runs ≡ Nothing → record { task = 0; sem = 0; refusal = 26 } ≡ asksBy runs at
+unfolding asksBy firstOf answered isNone foundAnd
+asks-nobody runs at e = rw e
 
-  third : (k j : ℕ) (test : Bool) (at : Found) → at ≡ At k → test ≡ true → firstOf ((21, isNone at) ∷ (j, test) ∷ []) ≡ j
-  unfolding isNone foundAnd
-  third k j test at e t = rw (e, t) (firstOf-past 21 false ((j, true) ∷ []) refl ∙ firstOf-here j true [] refl)
+pub asks-unknown : (runs at : Found) (i : ℕ) → runs ≡ At i → at ≡ Nothing → record { task = 0; sem = 0; refusal = 21 } ≡ asksBy runs at
+unfolding asksBy firstOf answered isNone foundAnd
+asks-unknown runs at i e f = rw (e, f)
 
-  second : (j : ℕ) (test : Bool) (at : Found) → at ≡ Nothing → firstOf ((21, isNone at) ∷ (j, test) ∷ []) ≡ 21
-  unfolding isNone foundAnd
-  second j test at e = rw e (firstOf-here 21 true ((j, test) ∷ []) refl)
+pub asks-both : (runs at : Found) (i k : ℕ) → runs ≡ At i → at ≡ At k → record { task = i; sem = k; refusal = 0 } ≡ asksBy runs at
+unfolding asksBy firstOf answered isNone foundAnd foundOr
+asks-both runs at i k e f = rw (e, f)
 
-  runs : Found
-  runs = runningOf (tasksOf s) (semsOf s)
+-- nothing was refused: both were found
+asks-there : (runs at : Found) (r : Asks) → r ≡ asksBy runs at → r .refusal ≡ 0 → (runs ≡ At (r .task)) × (at ≡ At (r .sem))
+unfolding asksBy firstOf answered isNone foundAnd foundOr
+asks-there Nothing at r e z = absurd (eqb-false 26 0 refl (sym (ap (λ (x : Asks). x .refusal) e) ∙ z))
+asks-there (At i) Nothing r e z = absurd (eqb-false 21 0 refl (sym (ap (λ (x : Asks). x .refusal) e) ∙ z))
+asks-there (At i) (At k) r e z = (ap At (sym (ap (λ (x : Asks). x .task) e)), ap At (sym (ap (λ (x : Asks). x .sem) e)))
 
-  at : Found
-  at = semPlace (semsOf s) number
+-- something was: it is the first refusal of the call, whatever else the call refuses
+asks-refused : (runs at : Found) (r : Asks) → r ≡ asksBy runs at → r .refusal ≢ 0 → (rest : List (ℕ × Bool))
+    → firstOf ((26, isNone runs) ∷ (21, isNone at) ∷ rest) ≡ r .refusal
+unfolding asksBy firstOf answered isNone foundAnd foundOr
+asks-refused Nothing at r e ne rest = sym (ap (λ (x : Asks). x .refusal) e)
+asks-refused (At i) Nothing r e ne rest = sym (ap (λ (x : Asks). x .refusal) e)
+asks-refused (At i) (At k) r e ne rest = absurd (ne (ap (λ (x : Asks). x .refusal) e))
 
-  rest : ℕ → (ℕ → ℕ → Bool) → ℕ → List (ℕ × Bool)
-  rest j test i = (21, isNone at) ∷ (j, test i (foundOr 0 at)) ∷ []
+-- what is known of the task and the semaphore
+pub record Asked (s : State) (number : ℕ) (r : Asks) : Type 0 where
+  pub runs : Runs s (r .task)
+  pub stands : Stands s number (r .sem)
 
-  module _ (i : ℕ) (run : runningOf (tasksOf s) (semsOf s) ≡ At i) where
-    pub acquire-unknown : semPlace (semsOf s) number ≡ Nothing → acquireOf s number ≡ moved s 21
-    unfolding acquireOf runs at rest
-    acquire-unknown e =
-        call-refused 26 (rest 28 (closesRing (tasksOf s) (semsOf s))) (moved s) (λ i. acquireAt s i (foundOr 0 at)) runs i 21 run
-        (second 28 (closesRing (tasksOf s) (semsOf s) i (foundOr 0 at)) at e) (eqb-false 21 0 refl)
+pub asked-found : (s : State) → Sound s → (number : ℕ) (r : Asks) → r ≡ askedOf (tasksOf s) (semsOf s) number → r .refusal ≡ 0 → Asked s number r
+unfolding tasksOf semsOf
+asked-found s sound number r e z =
+    let found = asks-there (runningOf (tasksOf s) (semsOf s)) (semPlace (semsOf s) number) r e z in
+    record {
+      runs = runs-found s sound _ refl (r .task) (found .0);
+      stands = sem-found s sound number _ refl (r .sem) (found .1);
+    }
 
-    pub give-unknown : semPlace (semsOf s) number ≡ Nothing → giveOf s number ≡ moved s 21
-    unfolding giveOf runs at rest
-    give-unknown e =
-        call-refused 26 (rest 29 (notHeld (semsOf s))) (moved s) (λ i. moved (giveAt s (foundOr 0 at)) 0) runs i 21 run
-        (second 29 (notHeld (semsOf s) i (foundOr 0 at)) at e) (eqb-false 21 0 refl)
+-- a call that names a semaphore, with one refusal of its own, by its outcomes
+module _ (s : State) (number j : ℕ) (test : ℕ → ℕ → Bool) (done : ℕ → ℕ → Moved) where
+  abbrev callBy : Found → Found → Moved
+  callBy runs at =
+      answered
+      (firstOf ((26, isNone runs) ∷ (21, isNone at) ∷ (j, test (foundOr 0 runs) (foundOr 0 at)) ∷ []))
+      (moved s)
+      (done (foundOr 0 runs) (foundOr 0 at))
 
-    module _ (k : ℕ) (place : semPlace (semsOf s) number ≡ At k) where
-      there : foundOr 0 at ≡ k
-      unfolding at foundOr
-      there = ap (foundOr 0) place
+  abbrev Call : Moved
+  Call = callBy (runningOf (tasksOf s) (semsOf s)) (semPlace (semsOf s) number)
 
-      pub acquire-ring : closesRing (tasksOf s) (semsOf s) i k ≡ true → acquireOf s number ≡ moved s 28
-      unfolding acquireOf runs at rest there
-      acquire-ring e =
-          call-refused 26 (rest 28 (closesRing (tasksOf s) (semsOf s))) (moved s) (λ i. acquireAt s i (foundOr 0 at)) runs i 28 run
-          (third k 28 (closesRing (tasksOf s) (semsOf s) i (foundOr 0 at)) at place (ap (closesRing (tasksOf s) (semsOf s) i) there ∙ e))
-          (eqb-false 28 0 refl)
+  -- nobody runs, or no semaphore has the number
+  pub sem-unasked : (r : Asks) → r ≡ askedOf (tasksOf s) (semsOf s) number → r .refusal ≢ 0 → Call ≡ moved s (r .refusal)
+  sem-unasked r e ne =
+      let runs = runningOf (tasksOf s) (semsOf s) in
+      let at = semPlace (semsOf s) number in
+      ap (λ (k : ℕ). answered k (moved s) (done (foundOr 0 runs) (foundOr 0 at)))
+      (asks-refused runs at r e ne ((j, test (foundOr 0 runs) (foundOr 0 at)) ∷ []))
+      ∙ answered-refused (r .refusal) (moved s) (done (foundOr 0 runs) (foundOr 0 at)) ne
 
-      pub acquire-goes : closesRing (tasksOf s) (semsOf s) i k ≡ false → acquireOf s number ≡ acquireAt s i k
-      unfolding acquireOf runs at rest there
-      acquire-goes e =
-          call-done 26 (rest 28 (closesRing (tasksOf s) (semsOf s))) (moved s) (λ i. acquireAt s i (foundOr 0 at)) runs i run
-          (two k 28 (closesRing (tasksOf s) (semsOf s) i (foundOr 0 at)) at place (ap (closesRing (tasksOf s) (semsOf s) i) there ∙ e))
-          ∙ ap (acquireAt s i) there
+  module _ (i k : ℕ) (runs : runningOf (tasksOf s) (semsOf s) ≡ At i) (place : semPlace (semsOf s) number ≡ At k) where
+    -- the call's own refusal
+    pub sem-refused : test i k ≡ true → j ≢ 0 → Call ≡ moved s j
+    unfolding firstOf isNone foundAnd foundOr
+    sem-refused e ne = rw (runs, place, e) (answered-refused j (moved s) (done i k) ne)
 
-      pub give-unheld : notHeld (semsOf s) i k ≡ true → giveOf s number ≡ moved s 29
-      unfolding giveOf runs at rest there
-      give-unheld e =
-          call-refused 26 (rest 29 (notHeld (semsOf s))) (moved s) (λ i. moved (giveAt s (foundOr 0 at)) 0) runs i 29 run
-          (third k 29 (notHeld (semsOf s) i (foundOr 0 at)) at place (ap (notHeld (semsOf s) i) there ∙ e)) (eqb-false 29 0 refl)
-
-      pub give-goes : notHeld (semsOf s) i k ≡ false → giveOf s number ≡ moved (giveAt s k) 0
-      unfolding giveOf runs at rest there
-      give-goes e =
-          call-done 26 (rest 29 (notHeld (semsOf s))) (moved s) (λ i. moved (giveAt s (foundOr 0 at)) 0) runs i run
-          (two k 29 (notHeld (semsOf s) i (foundOr 0 at)) at place (ap (notHeld (semsOf s) i) there ∙ e))
-          ∙ ap (λ (x : ℕ). moved (giveAt s x) 0) there
-
-  pub acquire-none : runningOf (tasksOf s) (semsOf s) ≡ Nothing → acquireOf s number ≡ moved s 26
-  unfolding acquireOf runs at rest
-  acquire-none e =
-      call-none 26 (rest 28 (closesRing (tasksOf s) (semsOf s))) (moved s) (λ i. acquireAt s i (foundOr 0 at)) runs e (eqb-false 26 0 refl)
-
-  pub give-none : runningOf (tasksOf s) (semsOf s) ≡ Nothing → giveOf s number ≡ moved s 26
-  unfolding giveOf runs at rest
-  give-none e =
-      call-none 26 (rest 29 (notHeld (semsOf s))) (moved s) (λ i. moved (giveAt s (foundOr 0 at)) 0) runs e (eqb-false 26 0 refl)
+    -- none
+    pub sem-goes : test i k ≡ false → Call ≡ done i k
+    unfolding firstOf answered isNone foundAnd foundOr
+    sem-goes e = rw (runs, place, e)

@@ -4,10 +4,13 @@ ghost use mathlib.Core.Path.{_≡_};
 ghost use mathlib.Core.Bool.{not};
 ghost use mathlib.Core.List.{[], _∷_};
 ghost use Prim.Native.Nat.{_+_, _≤_};
+ghost use lib.ListN.{take};
 ghost use Rattle.table.specs.Refusals.{firstOf};
 ghost use Rattle.table.specs.Entries.{spanOf, withStatus, withDeadline};
+ghost use Rattle.waits.specs.Waits.{Used};
 ghost use Rattle.executive.specs.Sound.{Sized, Sound};
 ghost use Rattle.executive.specs.Wakes.{notDoing, wakeOf};
+ghost use Rattle.executive.specs.Asking.{askedOf};
 ghost use Rattle.executive.specs.Calls.{
   untimely,
   releaseOf,
@@ -21,6 +24,7 @@ ghost use Rattle.executive.specs.Calls.{
 use crate::state::State;
 use table::Found;
 use table::Holder;
+use table::Sem;
 use table::Status;
 use table::Task;
 use table::limits;
@@ -69,6 +73,41 @@ fn wake_refusal(known: bool, status: Status, wanted: u8, number: u8) -> u8
         return number;
     }
     numbers::DONE
+}
+
+// Who asks for which semaphore, by position and place; or a refusal and zeros.
+struct Asks {
+    task: usize,
+    sem: usize,
+    refusal: u8,
+}
+
+// 26, 21, or the running task and the semaphore with this number.
+fn asked(tasks: [Task; 64], n: usize, sems: [Sem; 16], m: usize, number: u16) -> Asks
+    requires { ⌜ Used tasks n sems m ⌝ }
+    ensures { λ r. ⌜ r ≡ askedOf (take n tasks) (take m sems) number ⌝ }
+{
+    let runs = standing::running(tasks, n, sems, m);
+    let Found::At(task) = runs else {
+        return Asks {
+            task: 0,
+            sem: 0,
+            refusal: numbers::NOBODY_RUNS,
+        };
+    };
+    let found = lookup::sem_place(sems, m, number);
+    let Found::At(sem) = found else {
+        return Asks {
+            task: 0,
+            sem: 0,
+            refusal: numbers::UNKNOWN_SEM,
+        };
+    };
+    Asks {
+        task,
+        sem,
+        refusal: numbers::DONE,
+    }
 }
 
 // Handing a state over copies it. The three calls that name a task do so twice and no more: they build what they hand
@@ -189,20 +228,16 @@ impl State {
         requires { ⌜ Sound self ⌝ }
         ensures { λ r. ⌜ r ≡ acquireOf self number ⌝ }
     {
-        let runs = standing::running(self.tasks, self.n, self.sems, self.m);
-        let Found::At(i) = runs else {
+        let asks = asked(self.tasks, self.n, self.sems, self.m, number);
+        let refusal = asks.refusal;
+        if refusal != numbers::DONE {
             return Moved {
                 state: self,
-                answer: numbers::NOBODY_RUNS,
+                answer: refusal,
             };
-        };
-        let found = lookup::sem_place(self.sems, self.m, number);
-        let Found::At(k) = found else {
-            return Moved {
-                state: self,
-                answer: numbers::UNKNOWN_SEM,
-            };
-        };
+        }
+        let i = asks.task;
+        let k = asks.sem;
         if standing::closes_ring(self.tasks, self.n, self.sems, self.m, i, k) {
             return Moved {
                 state: self,
@@ -231,20 +266,16 @@ impl State {
         requires { ⌜ Sound self ⌝ }
         ensures { λ r. ⌜ r ≡ giveOf self number ⌝ }
     {
-        let runs = standing::running(self.tasks, self.n, self.sems, self.m);
-        let Found::At(i) = runs else {
+        let asks = asked(self.tasks, self.n, self.sems, self.m, number);
+        let refusal = asks.refusal;
+        if refusal != numbers::DONE {
             return Moved {
                 state: self,
-                answer: numbers::NOBODY_RUNS,
+                answer: refusal,
             };
-        };
-        let found = lookup::sem_place(self.sems, self.m, number);
-        let Found::At(k) = found else {
-            return Moved {
-                state: self,
-                answer: numbers::UNKNOWN_SEM,
-            };
-        };
+        }
+        let i = asks.task;
+        let k = asks.sem;
         let entry = self.sems[k];
         if !standing::holds_it(i, entry) {
             return Moved {
