@@ -3,7 +3,4 @@ pub mod LookupLaws
 pub mod SoundLaws
 pub mod CallLaws
 pub mod RunLaws
-pub mod KeepLaws
-pub mod SoundCalls
-pub mod RefusedLaws
 pub mod TableLaws

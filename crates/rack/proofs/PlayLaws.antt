@@ -30,7 +30,7 @@ use Rattle.executive.specs.Calls.{
   completeOf,
   blockOf,
 }
-use Rattle.executive.proofs.RefusedLaws.{
+use Rattle.kept.proofs.RefusedLaws.{
   Same,
   release-same,
   signal-same,
@@ -40,7 +40,7 @@ use Rattle.executive.proofs.RefusedLaws.{
   complete-same,
   block-same,
 }
-use Rattle.executive.proofs.SoundCalls.{
+use Rattle.kept.proofs.SoundCalls.{
   release-sound,
   signal-sound,
   withdraw-sound,

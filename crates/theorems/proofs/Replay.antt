@@ -8,7 +8,7 @@ use mathlib.Core.List.{List, [], _∷_}
 use native.Mathlib.Omega.{arith}
 use Rattle.executive.specs.declared.state.State.{State}
 use Rattle.executive.specs.declared.calls.Moved.{Moved}
-use Rattle.executive.proofs.RefusedLaws.{
+use Rattle.kept.proofs.RefusedLaws.{
   Same,
   release-same,
   signal-same,

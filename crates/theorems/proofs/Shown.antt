@@ -19,7 +19,7 @@ use Rattle.waits.specs.declared.standing.Rank.{Rank}
 use Rattle.waits.specs.Standing.{standingOf, runningOf, numberAt}
 use Rattle.waits.specs.Reaches.{IsStanding}
 use Rattle.executive.specs.Tables.{tableOf}
-use Rattle.executive.proofs.SoundCalls.{
+use Rattle.kept.proofs.SoundCalls.{
   release-sound,
   signal-sound,
   withdraw-sound,

@@ -25,14 +25,14 @@ use Rattle.waits.specs.Standing.{foundAnd, foundOr, isNone, isReady, readyAt, w
 use Rattle.waits.proofs.RankLaws.{best-none}
 use Rattle.waits.proofs.ChainLaws.{waits-held, waits-none, reaches-true}
 use Rattle.waits.proofs.DispatchLaws.{runs-is}
 use Rattle.executive.specs.declared.state.State.{State}
 use Rattle.executive.specs.declared.calls.Moved.{Moved}
 use Rattle.executive.specs.States.{tasksOf, semsOf}
 use Rattle.executive.specs.Sound.{Sound}
 use Rattle.executive.specs.Calls.{withTasks, withTask, withSem, withLast, nowDoes, nowHeld, moved, busy, untimely, noEventWait, noSemWait, notHeld, releaseAt, takeOrWait, acquireAt, handOver, giveAt, completeAt, onTask, releaseOf, signalOf, withdrawOf, acquireOf, giveOf, completeOf, blockOf}
 use Rattle.executive.proofs.SoundLaws.{chained, tasks-length, sems-length, task-below, sem-below, runs-below, heir-below}
 use Rattle.executive.proofs.CallLaws.{call-keeps, on-keeps, release-timely, holds-none}
-use Rattle.executive.proofs.KeepLaws.{calm-kept, wait-kept, sem-kept, sem-set-same, task-set-same}
+use Rattle.kept.proofs.KeepLaws.{calm-kept, wait-kept, sem-kept, sem-set-same, task-set-same}
 
 -- what a call hands back is sound
 abbrev Kept : Moved → Type 0

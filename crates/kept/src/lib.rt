@@ -1,0 +1,1 @@
+// No code: what every call keeps, shown in proofs/.
