@@ -58,7 +58,8 @@ fn released(t: Task, time: u64) -> Task
     requires { ⌜ time ≤ 1000000000000000 ⌝ }
     ensures { λ r. ⌜ r ≡ withStatus (withDeadline t (time + spanOf t)) Status.Ready ⌝ }
 {
-    let due = t.with_deadline(time + t.period as u64);
+    let span = t.span();
+    let due = t.with_deadline(time + span as u64);
     due.with_status(Status::Ready)
 }
 

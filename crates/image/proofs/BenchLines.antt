@@ -10,7 +10,7 @@ use Rattle.table.specs.declared.Status.the-variants.{Idle}
 use Rattle.table.specs.Entries.{noFigures}
 use Rattle.table.specs.Refusals.{firstOf, answered}
 use Rattle.table.specs.Sums.{any}
-use Rattle.table.specs.WellFormed.{within, taskInRange, boardInRange, used}
+use Rattle.table.specs.WellFormed.{within, dueInRange, taskInRange, boardInRange, used}
 use Rattle.fields.specs.Fields.{valueOf, bytesOf, readAt, allAre}
 use Rattle.records.specs.Records.{taskIn, boardIn, unlessOutOfRange, taskDecoded, boardDecoded, decoded, encodeTask, encodeBoard}
 use Rattle.executive.specs.Tables.{addTask, addBoard, stateOf}
@@ -19,7 +19,7 @@ use Rattle.image.proofs.LoadLaws.{load-bad}
 
 -- a good task, with number 7, period 2,000 and cost 1,000 in DP1
 abbrev goodTask : Task
-goodTask = record { deadline = 0; period = 2000; cost = 1000; number = 7; queue = 1; status = Idle }
+goodTask = record { deadline = 0; period = 2000; cost = 1000; due = 0; number = 7; queue = 1; status = Idle }
 
 -- a run of bytes 255
 abbrev erasedRun : ℕ → List ℕ
@@ -38,5 +38,5 @@ unfolding loadOf loadRecords badLength recordsIn loadFrom freshTable erasedAfter
 all-erased-64 = refl
 
 pub erased-then-board : loadOf (encodeTask goodTask ++ (erasedRun 32 ++ encodeBoard noFigures)) ≡ refusedLoad 3 2
-unfolding loadOf loadRecords badLength recordsIn loadFrom freshTable erasedAfter taken addTask addBoard finishedLoad stateOf firstOf answered decoded allAre refusalOf usedAfter refusedAs follows orderBroken numberTwice tooMany encodeTask encodeBoard bytesOf taskDecoded boardDecoded unlessOutOfRange taskIn boardIn readAt valueOf taskInRange boardInRange within used any
+unfolding loadOf loadRecords badLength recordsIn loadFrom freshTable erasedAfter taken addTask addBoard finishedLoad stateOf firstOf answered decoded allAre refusalOf usedAfter refusedAs follows orderBroken numberTwice tooMany encodeTask encodeBoard bytesOf taskDecoded boardDecoded unlessOutOfRange taskIn boardIn readAt valueOf dueInRange taskInRange boardInRange within used any
 erased-then-board = refl

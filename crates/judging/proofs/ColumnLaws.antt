@@ -12,14 +12,15 @@ use lib.Seq.{take-suc, take-suc-set}
 use Rattle.table.specs.declared.Board.{Board}
 use Rattle.table.specs.declared.Task.{Task}
 use Rattle.table.specs.declared.Sem.{Sem}
-use Rattle.table.specs.Entries.{blankTask}
+use Rattle.table.specs.Entries.{blankTask, spanOf}
 use Rattle.table.specs.WellFormed.{WellFormed, taskInRange}
 use Rattle.table.proofs.SumLaws.{every-at}
-use Rattle.table.proofs.OrderLaws.{TaskRange, task-range}
+use Rattle.table.proofs.OrderLaws.{TaskRange, task-range, span-range}
 use Rattle.charges.specs.Charges.{loadOf}
 use Rattle.charges.proofs.ChargeLaws.{load-bound}
-use Rattle.judging.specs.Columns.{at, columnsOf}
-use Rattle.judging.specs.Ranges.{InRange}
+use Rattle.judging.specs.declared.Columns.{Columns}
+use Rattle.judging.specs.Columns.{at, columns, columnsOf}
+use Rattle.judging.specs.Ranges.{InRange, SpansInRange}
 
 module _ {A : Type 0} where
   -- an entry of a column
@@ -47,6 +48,17 @@ module _ {A : Type 0} where
   getD-any (x ∷ xs) zero d e h = refl
   getD-any (x ∷ xs) (suc i) d e h = getD-any xs i d e (le-of-suc-le-suc h)
 
+-- ranges do not see the spans
+pub unspanned : (c : Columns) → InRange c → InRange (columns (c .queues) (c .periods) (c .loads))
+unspanned c r =
+    record {
+      fit = r .fit;
+      periodsLength = r .periodsLength;
+      loadsLength = r .loadsLength;
+      periods = r .periods;
+      loads = r .loads;
+    }
+
 module _ (tasks : List Task) (board : Board) where
   -- each column has as many entries as there are tasks
   pub queues-length : length ((columnsOf tasks board) .queues) ≡ length tasks
@@ -61,6 +73,14 @@ module _ (tasks : List Task) (board : Board) where
   unfolding columnsOf
   loads-length = length-map tasks (loadOf tasks board)
 
+  pub spans-length : length ((columnsOf tasks board) .spans) ≡ length tasks
+  unfolding columnsOf
+  spans-length = length-map tasks spanOf
+
+  ranges : (sems : List Sem) (present : Bool) → (1 ≤ length tasks → WellFormed tasks sems board present) → (j : ℕ) → j < length tasks
+      → TaskRange (getD tasks j blankTask)
+  ranges sems present wf j h = task-range (getD tasks j blankTask) (every-at taskInRange tasks (wf (omega arith) .taskRanges) j h blankTask)
+
   -- they are in range, if the table has a task and is well formed or if it has none
   pub columns-range : (sems : List Sem) (present : Bool) → length tasks ≤ 64 → (1 ≤ length tasks → WellFormed tasks sems board present)
       → InRange (columnsOf tasks board)
@@ -69,21 +89,34 @@ module _ (tasks : List Task) (board : Board) where
       let n = queues-length in
       let below : (j : ℕ) → j < length (map (λ (t : Task). t .queue) tasks) → j < length tasks = λ j h. omega (arith, n) in
       let formed : (j : ℕ) → j < length tasks → WellFormed tasks sems board present = λ j h. wf (omega arith) in
-      let ranges : (j : ℕ) → j < length tasks → TaskRange (getD tasks j blankTask) =
-      λ j h. task-range (getD tasks j blankTask) (every-at taskInRange tasks (formed j h .taskRanges) j h blankTask)
-      in
+      let range = ranges sems present wf in
       record {
         fit = omega (arith, n);
         periodsLength = periods-length ∙ sym n;
         loadsLength = loads-length ∙ sym n;
         periods =
             record {
-              least = λ j h. rw (at-map (λ (t : Task). t .period) tasks j blankTask (below j h)) (ranges j (below j h) .periodLeast);
-              most = λ j h. rw (at-map (λ (t : Task). t .period) tasks j blankTask (below j h)) (ranges j (below j h) .periodMost);
+              least = λ j h. rw (at-map (λ (t : Task). t .period) tasks j blankTask (below j h)) (range j (below j h) .periodLeast);
+              most = λ j h. rw (at-map (λ (t : Task). t .period) tasks j blankTask (below j h)) (range j (below j h) .periodMost);
             };
         loads =
             λ j h.
             rw (at-map (loadOf tasks board) tasks j blankTask (below j h))
             (load-bound tasks board (getD tasks j blankTask) fit (formed j (below j h) .figures)
-            (le-trans (ranges j (below j h) .costMost) (ranges j (below j h) .periodMost)));
+            (le-trans (range j (below j h) .costMost) (range j (below j h) .periodMost)));
+      }
+
+  -- and so are the spans, which are no longer than the periods
+  pub spans-range : (sems : List Sem) (present : Bool) → (1 ≤ length tasks → WellFormed tasks sems board present)
+      → SpansInRange (length ((columnsOf tasks board) .queues)) ((columnsOf tasks board) .spans)
+  unfolding columnsOf
+  spans-range sems present wf =
+      let n = queues-length in
+      record {
+        spansLength = spans-length ∙ sym n;
+        most =
+            λ j h.
+            let k : j < length tasks = omega (arith, n) in
+            let range = ranges sems present wf j k in
+            rw (at-map spanOf tasks j blankTask k) (le-trans (span-range (getD tasks j blankTask) range .1) (range .periodMost));
       }

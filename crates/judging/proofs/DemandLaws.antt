@@ -22,11 +22,11 @@ use native.Mathlib.Decide.{decLe}
 use native.Mathlib.Numerals.{add-one}
 use native.Mathlib.Omega.{arith}
 use lib.Dec.{eqb, leb}
-use lib.ListN.{length, replicate, getD-replicate}
+use lib.ListN.{length, take, replicate, getD-replicate}
 use lib.Seq.{getD-take, length-take-le}
 use borrow.Author.Tests.{leb-true, leb-false, le-leb, lt-leb, eq-eqb, ne-eqb}
 use Rattle.judging.specs.declared.Columns.{Columns}
-use Rattle.judging.specs.Columns.{at, columns, firstTasks}
+use Rattle.judging.specs.Columns.{at, columns}
 use Rattle.judging.specs.Ranges.{InRange}
 use Rattle.judging.specs.Demands.{sumTo, ceil, star, counted, demandDP2, demandFP, TimeUpTo, timeUpTo, decided, hasTime}
 
@@ -201,7 +201,7 @@ decided-demand d e limit h = ap (λ (f : ℕ → ℕ). decided (timeUpTo f limit
 
 -- the columns up to i, with each task counted as a DP1 task is
 abbrev pub wholeUpTo : Columns → ℕ → Columns
-wholeUpTo c i = firstTasks (i + 1) (columns (replicate 64 1) (c .periods) (c .loads))
+wholeUpTo c i = columns (take (i + 1) (replicate 64 1)) (take (i + 1) (c .periods)) (take (i + 1) (c .loads))
 
 module _ (c : Columns) (i : ℕ) (r : InRange c) (l : i < length (c .queues)) where
   pub whole-ways : length (wholeUpTo c i .queues) ≡ i + 1

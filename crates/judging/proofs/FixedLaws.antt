@@ -14,7 +14,7 @@ use Rattle.table.specs.declared.Found.the-variants.{At, Nothing}
 use Rattle.table.specs.Refusals.{firstOf}
 use Rattle.judging.specs.declared.Outcome.{Outcome}
 use Rattle.judging.specs.declared.Columns.{Columns}
-use Rattle.judging.specs.Columns.{at, columns}
+use Rattle.judging.specs.Columns.{at, columns, withSpans}
 use Rattle.judging.specs.Periods.{gcdIn, gcdOf, lcmOf, sharedPeriod, tooLong, overFull}
 use Rattle.judging.specs.Demands.{demandDP2, demandFP, timeUpTo, decided}
 use Rattle.judging.specs.Verdicts.{
@@ -52,14 +52,19 @@ forced-list [] k = refl
 forced-list (x ∷ xs) k = forced-is x (λ y. forcedList xs (λ ys. k (y ∷ ys))) ∙ forced-list xs (λ ys. k (x ∷ ys))
 
 unfoldable pub forcedColumns : {A : Type 0} → Columns → (Columns → A) → A
-forcedColumns c k = forcedList (c .queues) (λ q. forcedList (c .periods) (λ p. forcedList (c .loads) (λ l. k (columns q p l))))
+forcedColumns c k =
+    forcedList (c .queues) (λ q.
+    forcedList (c .periods) (λ p. forcedList (c .loads) (λ l. forcedList (c .spans) (λ s. k (withSpans (columns q p l) s)))))
 
 pub forced-columns : {A : Type 0} (c : Columns) (k : Columns → A) → forcedColumns c k ≡ k c
 unfolding forcedColumns
-forced-columns c k =
-    forced-list (c .queues) (λ q. forcedList (c .periods) (λ p. forcedList (c .loads) (λ l. k (columns q p l))))
-    ∙ forced-list (c .periods) (λ p. forcedList (c .loads) (λ l. k (columns (c .queues) p l)))
-    ∙ forced-list (c .loads) (λ l. k (columns (c .queues) (c .periods) l))
+forced-columns {A} c k =
+    let spans : List ℕ → List ℕ → List ℕ → A = λ q p l. forcedList (c .spans) (λ s. k (withSpans (columns q p l) s)) in
+    let loads : List ℕ → List ℕ → A = λ q p. forcedList (c .loads) (λ l. spans q p l) in
+    forced-list (c .queues) (λ q. forcedList (c .periods) (λ p. loads q p))
+    ∙ forced-list (c .periods) (λ p. loads (c .queues) p)
+    ∙ forced-list (c .loads) (λ l. spans (c .queues) (c .periods) l)
+    ∙ forced-list (c .spans) (λ s. k (withSpans c s))
 
 -- from t on, with so many steps left
 unfoldable pub fixedFrom : ℕ → (ℕ → ℕ) → ℕ → ℕ → Bool
@@ -108,17 +113,17 @@ module _ (demand : ℕ → ℕ) (limit : ℕ) (rises : (s t : ℕ) → s ≤ t �
 -- the tests of 13 and 14 decided so
 unfoldable pub fixedLate : ℕ → Columns → ℕ → Bool
 fixedLate queue c i =
-    let limit = at (c .periods) i in
-    eqb (at (c .queues) i) queue && not (cond (eqb queue 2) (fixedUpTo (demandDP2 c limit) limit) (fixedUpTo (demandFP c i) limit))
+    let own = at (c .periods) i in
+    eqb (at (c .queues) i) queue && not (cond (eqb queue 2) (fixedUpTo (demandDP2 c own) own) (fixedUpTo (demandFP c i) (at (c .spans) i)))
 
 late-same : (queue : ℕ) (c : Columns) (i : ℕ) → i < length (c .queues) → ((j : ℕ) → j < length (c .queues) → 0 < at (c .periods) j)
     → fixedLate queue c i ≡ late queue c i
 unfolding fixedLate late
 late-same queue c i h pos =
-    let limit = at (c .periods) i in
+    let own = at (c .periods) i in
     rw (
-      fixed-up-to (demandDP2 c limit) limit (λ s t l. demand-dp2-mono c limit s t pos l),
-      fixed-up-to (demandFP c i) limit (λ s t l. demand-fp-mono c i s t (λ j k. pos j (omega arith)) l),
+      fixed-up-to (demandDP2 c own) own (λ s t l. demand-dp2-mono c own s t pos l),
+      fixed-up-to (demandFP c i) (at (c .spans) i) (λ s t l. demand-fp-mono c i s t (λ j k. pos j (omega arith)) l),
     )
 
 -- the least common multiple, each remainder computed once

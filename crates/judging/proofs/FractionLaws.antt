@@ -19,7 +19,7 @@ use lib.Dec.{leb, ltb}
 use lib.ListN.{length}
 use borrow.Author.Tests.{leb-true, ltb-true, ltb-false, lt-ltb, le-ltb, le-leb, lt-leb}
 use Rattle.judging.specs.declared.Columns.{Columns}
-use Rattle.judging.specs.Columns.{at}
+use Rattle.judging.specs.Columns.{at, columns}
 use Rattle.judging.specs.Periods.{plus, fractions, aboveOne, overFull}
 
 -- no denominator is 0
@@ -112,3 +112,13 @@ part-small h p hm pl =
     let pos : 0 < p = omega arith in
     let b : h / p < 1000000001 = div-lt-iff-lt-mul {k = p} {x = h} {y = 1000000001} pos .1 (omega arith) in
     omega arith
+
+-- spans have no part in the sums
+fractions-spanned : (c : Columns) (last i : ℕ) → fractions (columns (c .queues) (c .periods) (c .loads)) last i ≡ fractions c last i
+unfolding fractions
+fractions-spanned c last zero = refl
+fractions-spanned c last (suc i) = rw (fractions-spanned c last i)
+
+pub full-spanned : (c : Columns) (last : ℕ) → overFull (columns (c .queues) (c .periods) (c .loads)) last ≡ overFull c last
+unfolding overFull
+full-spanned c last = ap aboveOne (fractions-spanned c last (length (c .queues)))

@@ -230,11 +230,11 @@ module _ (c : Columns) where
   unfolding tooLong
   not-long i h = le-ltb 1000000000000 (sharedPeriod c (suc i)) (rw (add-one i) at h)
 
--- loads have no part in the shared period
-pub shared-dated : (queues periods loads : List ℕ) (i : ℕ) → sharedPeriod (columns queues periods []) i ≡ sharedPeriod (columns queues periods loads) i
+-- loads and spans have no part in the shared period
+pub shared-dated : (c : Columns) (i : ℕ) → sharedPeriod (columns (c .queues) (c .periods) []) i ≡ sharedPeriod c i
 unfolding sharedPeriod
-shared-dated queues periods loads zero = refl
-shared-dated queues periods loads (suc i) = rw (shared-dated queues periods loads i)
+shared-dated c zero = refl
+shared-dated c (suc i) = rw (shared-dated c i)
 
 -- a limit is compared with a product by a quotient
 pub product-above : (limit h part : ℕ) → 0 < part → limit / part < h → limit < h * part

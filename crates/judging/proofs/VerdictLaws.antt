@@ -38,38 +38,35 @@ use Rattle.judging.specs.Verdicts.{
 use Rattle.judging.proofs.FirstLaws.{first-none, first-same, first-found}
 use Rattle.judging.proofs.PeriodLaws.{shared-least, shared-dated}
 
-module _ (queues periods loads : List ℕ) where
-  -- the answer about the shared period, for which no loads are lent
-  dated : sharedOf (columns queues periods []) ≡ sharedOf (columns queues periods loads)
+module _ (c : Columns) where
+  -- the answer about the shared period, for which no loads and no spans are lent
+  dated : sharedOf (columns (c .queues) (c .periods) []) ≡ sharedOf c
   unfolding sharedOf firstLong tooLong
   dated =
-      let same = shared-dated queues periods loads in
       rw (
-        first-same (tooLong (columns queues periods [])) (tooLong (columns queues periods loads)) (length queues)
-            (λ i h. ap (ltb 1000000000000) (same (suc i))),
-        same (length queues),
+        first-same (tooLong (columns (c .queues) (c .periods) [])) (tooLong c) (length (c .queues))
+            (λ i h. ap (ltb 1000000000000) (shared-dated c (suc i))),
+        shared-dated c (length (c .queues)),
       )
 
   -- its two cases
-  pub shared-above : (i : ℕ) → Above i ≡ sharedOf (columns queues periods []) → firstLong (columns queues periods loads) ≡ At i
+  pub shared-above : (i : ℕ) → Above i ≡ sharedOf (columns (c .queues) (c .periods) []) → firstLong c ≡ At i
   unfolding sharedOf sharedBy
-  shared-above i h = go (firstLong (columns queues periods loads)) (h ∙ dated)
+  shared-above i h = go (firstLong c) (h ∙ dated)
     where
-      go : (f : Found) → Above i ≡ sharedBy f (sharedPeriod (columns queues periods loads) (length queues)) → f ≡ At i
+      go : (f : Found) → Above i ≡ sharedBy f (sharedPeriod c (length (c .queues))) → f ≡ At i
       go (At j) k = cc
       go Nothing k = let z : _≡_ {A = ℕ} 0 1 = cc in absurd (omega arith)
 
-  pub shared-within : (h : ℕ) → Within h ≡ sharedOf (columns queues periods [])
-      → (firstLong (columns queues periods loads) ≡ Nothing) × (h ≡ sharedPeriod (columns queues periods loads) (length queues))
+  pub shared-within : (h : ℕ) → Within h ≡ sharedOf (columns (c .queues) (c .periods) [])
+      → (firstLong c ≡ Nothing) × (h ≡ sharedPeriod c (length (c .queues)))
   unfolding sharedOf sharedBy
-  shared-within h e = go (firstLong (columns queues periods loads)) (e ∙ dated)
+  shared-within h e = go (firstLong c) (e ∙ dated)
     where
-      go : (f : Found) → Within h ≡ sharedBy f (sharedPeriod (columns queues periods loads) (length queues))
-          → (f ≡ Nothing) × (h ≡ sharedPeriod (columns queues periods loads) (length queues))
+      go : (f : Found) → Within h ≡ sharedBy f (sharedPeriod c (length (c .queues))) → (f ≡ Nothing) × (h ≡ sharedPeriod c (length (c .queues)))
       go (At j) k = let z : _≡_ {A = ℕ} 0 1 = cc in absurd (omega arith)
       go Nothing k = (refl, cc)
 
-module _ (c : Columns) where
   -- a shared period that is not above 10^12 at any task is not
   shared-most : (n : ℕ) → ((i : ℕ) → i < n → tooLong c i ≡ false) → sharedPeriod c n ≤ 1000000000000
   unfolding tooLong sharedPeriod

@@ -1,9 +1,10 @@
--- The columns of a table: the queue, the period and the load of each task, in table order. Every test of judging speaks of these lists.
+-- The columns of a table: the queue, the period, the load and the span of each task, in table order. Every test of judging speaks of these lists.
 use Prim.Native.Nat.{ℕ}
-use mathlib.Core.List.{List, map}
+use mathlib.Core.List.{List, [], map}
 use lib.ListN.{getD, take}
 use Rattle.table.specs.declared.Board.{Board}
 use Rattle.table.specs.declared.Task.{Task}
+use Rattle.table.specs.Entries.{spanOf}
 use Rattle.charges.specs.Charges.{loadOf}
 use Rattle.judging.specs.declared.Columns.{Columns}
 
@@ -11,14 +12,18 @@ use Rattle.judging.specs.declared.Columns.{Columns}
 abbrev pub at : List ℕ → ℕ → ℕ
 at list i = getD list i 0
 
--- columns, of lists
+-- columns, of lists; and with the spans, of which 14 alone speaks (02, a))
 abbrev pub columns : List ℕ → List ℕ → List ℕ → Columns
-columns queues periods loads = record { queues = queues; periods = periods; loads = loads }
+columns queues periods loads = record { queues = queues; periods = periods; loads = loads; spans = [] }
+
+abbrev pub withSpans : Columns → List ℕ → Columns
+withSpans c spans = record { queues = c .queues; periods = c .periods; loads = c .loads; spans = spans }
 
 -- the columns of the first n tasks
 abbrev pub firstTasks : ℕ → Columns → Columns
-firstTasks n c = columns (take n (c .queues)) (take n (c .periods)) (take n (c .loads))
+firstTasks n c = withSpans (columns (take n (c .queues)) (take n (c .periods)) (take n (c .loads))) (take n (c .spans))
 
--- the columns of these tasks at these figures; the load is that of 01, "Charges"
+-- the columns of these tasks at these figures; the load is that of 01, "Charges", the span that of 02, a)
 unfoldable pub columnsOf : List Task → Board → Columns
-columnsOf tasks board = columns (map (λ t. t .queue) tasks) (map (λ t. t .period) tasks) (map (loadOf tasks board) tasks)
+columnsOf tasks board =
+    withSpans (columns (map (λ t. t .queue) tasks) (map (λ t. t .period) tasks) (map (loadOf tasks board) tasks)) (map spanOf tasks)

@@ -1,4 +1,4 @@
--- Tests 13 and 14 (01, "The tests"): there is a whole time t from 1 to the task's period at which the demand is at most t.
+-- Tests 13 and 14 (01, "The tests"; 02, a)): there is a whole time t from 1 to the task's limit at which the demand is at most t.
 use Prim.Native.Nat.{ℕ, zero, suc, _+_, _*_, _-_, _/_, _≤_, _<_}
 use mathlib.Core.Bool.{Bool, true, false, cond}
 use mathlib.Core.Logic.{_⊎_, inl, inr, ite}
@@ -72,9 +72,9 @@ TimeDP2 c i = TimeUpTo (demandDP2 c (at (c .periods) i)) (at (c .periods) i)
 abbrev pub timeDP2 : (c : Columns) (i : ℕ) → Dec (TimeDP2 c i)
 timeDP2 c i = timeUpTo _ _
 
--- 01, "The tests", 14: for FP task i there is a time up to its period
+-- 01, "The tests", 14, and 02, a): for FP task i there is a time up to its span
 abbrev pub TimeFP : Columns → ℕ → Type 0
-TimeFP c i = TimeUpTo (demandFP c i) (at (c .periods) i)
+TimeFP c i = TimeUpTo (demandFP c i) (at (c .spans) i)
 
 abbrev pub timeFP : (c : Columns) (i : ℕ) → Dec (TimeFP c i)
 timeFP c i = timeUpTo _ _

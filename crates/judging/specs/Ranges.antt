@@ -20,6 +20,11 @@ pub record InRange (c : Columns) : Type 0 where
   pub periods : PeriodsInRange (length (c .queues)) (c .periods)
   pub loads : (j : ℕ) → j < length (c .queues) → at (c .loads) j ≤ 1000000000
 
+-- a span for each of so many tasks, none longer than the longest period
+pub record SpansInRange (tasks : ℕ) (spans : List ℕ) : Type 0 where
+  pub spansLength : length spans ≡ tasks
+  pub most : (j : ℕ) → j < tasks → at spans j ≤ 100000000
+
 -- a common multiple of the periods of the tasks in the queues up to the last, at most 10^12
 pub record Common (c : Columns) (last h : ℕ) : Type 0 where
   pub positive : 1 ≤ h

@@ -5,8 +5,8 @@ ghost use lib.ListN.{length, take};
 ghost use Rattle.table.specs.declared.Found.the-variants.{At, Nothing};
 ghost use Rattle.executive.specs.States.{tasksOf};
 ghost use Rattle.executive.specs.Sound.{Sound};
-ghost use Rattle.judging.specs.Columns.{columns, firstTasks, columnsOf};
-ghost use Rattle.judging.specs.Ranges.{InRange};
+ghost use Rattle.judging.specs.Columns.{columns, withSpans, firstTasks, columnsOf};
+ghost use Rattle.judging.specs.Ranges.{InRange, SpansInRange};
 ghost use Rattle.judging.specs.Verdicts.{late, firstLate, outcomeAt, outcomeOf, verdictOf};
 use crate::Columns;
 use crate::Outcome;
@@ -23,9 +23,13 @@ use table::numbers;
 
 // Whether the task at i is in the queue and has no time. For an FP task all tasks up to it count, each as a DP1 task
 // counts.
-fn late(queues: &[u8], periods: &[u64], loads: &[u64], queue: u8, i: usize) -> bool
-    requires { ⌜ InRange (columns (now queues) (now periods) (now loads)) × (i < length (now queues)) ⌝ }
-    ensures { λ r. ⌜ r ≡ late queue (columns (now (queues .entry)) (now (periods .entry)) (now (loads .entry))) i ⌝ }
+fn late(queues: &[u8], periods: &[u64], loads: &[u64], spans: &[u64], queue: u8, i: usize) -> bool
+    requires { ⌜ InRange (columns (now queues) (now periods) (now loads))
+        × SpansInRange (length (now queues)) (now spans)
+        × (i < length (now queues)) ⌝ }
+    ensures { λ r.
+        ⌜ r
+        ≡ late queue (withSpans (columns (now (queues .entry)) (now (periods .entry)) (now (loads .entry))) (now (spans .entry))) i ⌝ }
 {
     if queues[i] != queue {
         return false;
@@ -35,17 +39,19 @@ fn late(queues: &[u8], periods: &[u64], loads: &[u64], queue: u8, i: usize) -> b
     }
     let whole = [1u8; 64];
     let end = i + 1;
-    !search::has_time(&whole[..end], &periods[..end], &loads[..end], periods[i])
+    !search::has_time(&whole[..end], &periods[..end], &loads[..end], spans[i])
 }
 
 // The first task of the queue in table order that has no time.
-fn first_late(queues: &[u8], periods: &[u64], loads: &[u64], queue: u8) -> Found
-    requires { ⌜ InRange (columns (now queues) (now periods) (now loads)) ⌝ }
-    ensures { λ r. ⌜ r ≡ firstLate queue (columns (now (queues .entry)) (now (periods .entry)) (now (loads .entry))) ⌝ }
+fn first_late(queues: &[u8], periods: &[u64], loads: &[u64], spans: &[u64], queue: u8) -> Found
+    requires { ⌜ InRange (columns (now queues) (now periods) (now loads)) × SpansInRange (length (now queues)) (now spans) ⌝ }
+    ensures { λ r.
+        ⌜ r
+        ≡ firstLate queue (withSpans (columns (now (queues .entry)) (now (periods .entry)) (now (loads .entry))) (now (spans .entry))) ⌝ }
 {
     let mut i: usize = 0;
     while i < queues.len() {
-        if late(queues, periods, loads, queue, i) {
+        if late(queues, periods, loads, spans, queue, i) {
             return Found::At(i);
         }
         i += 1;
@@ -73,9 +79,11 @@ fn named(number: u8, i: usize) -> Outcome
 }
 
 // The tests in their order: 7, 10, 11, 12, 13, 14.
-fn outcome(queues: &[u8], periods: &[u64], loads: &[u64]) -> Outcome
-    requires { ⌜ InRange (columns (now queues) (now periods) (now loads)) ⌝ }
-    ensures { λ r. ⌜ r ≡ outcomeOf (columns (now (queues .entry)) (now (periods .entry)) (now (loads .entry))) ⌝ }
+fn outcome(queues: &[u8], periods: &[u64], loads: &[u64], spans: &[u64]) -> Outcome
+    requires { ⌜ InRange (columns (now queues) (now periods) (now loads)) × SpansInRange (length (now queues)) (now spans) ⌝ }
+    ensures { λ r.
+        ⌜ r
+        ≡ outcomeOf (withSpans (columns (now (queues .entry)) (now (periods .entry)) (now (loads .entry))) (now (spans .entry))) ⌝ }
 {
     if queues.len() == 0 {
         return unnamed(numbers::NO_TASK);
@@ -90,11 +98,11 @@ fn outcome(queues: &[u8], periods: &[u64], loads: &[u64]) -> Outcome
             if sums::over_full(queues, periods, loads, 2, h) {
                 return unnamed(numbers::DP_OVER_FULL);
             }
-            let dp2 = first_late(queues, periods, loads, 2);
+            let dp2 = first_late(queues, periods, loads, spans, 2);
             if let Found::At(i) = dp2 {
                 return named(numbers::DP2_NO_TIME, i);
             }
-            let fp = first_late(queues, periods, loads, 3);
+            let fp = first_late(queues, periods, loads, spans, 3);
             match fp {
                 Found::At(i) => named(numbers::FP_NO_TIME, i),
                 Found::Nothing => unnamed(numbers::DONE),
@@ -112,18 +120,21 @@ fn columns_of(tasks: [Task; 64], n: usize, board: Board) -> Columns
     let mut queues = [0u8; 64];
     let mut periods = [0u64; 64];
     let mut loads = [0u64; 64];
+    let mut spans = [0u64; 64];
     let mut i: usize = 0;
     while i < n {
         let t = tasks[i];
         queues[i] = t.queue;
         periods[i] = t.period as u64;
         loads[i] = counts.load(t);
+        spans[i] = t.span() as u64;
         i += 1;
     }
     Columns {
         queues,
         periods,
         loads,
+        spans,
     }
 }
 
@@ -138,7 +149,8 @@ pub fn judge(state: State) -> Verdict
     let queues = columns.queues;
     let periods = columns.periods;
     let loads = columns.loads;
-    let found = outcome(&queues[..n], &periods[..n], &loads[..n]);
+    let spans = columns.spans;
+    let found = outcome(&queues[..n], &periods[..n], &loads[..n], &spans[..n]);
     let place = found.place;
     match place {
         Found::At(i) => Verdict {

@@ -5,11 +5,12 @@ pub mod judge;
 mod search;
 mod sums;
 
-// The queue, the period and the load of each task, in table order.
+// The queue, the period, the load and the span of each task, in table order.
 pub struct Columns {
     pub queues: [u8; 64],
     pub periods: [u64; 64],
     pub loads: [u64; 64],
+    pub spans: [u64; 64],
 }
 
 // What judging answers: the number, and the task that it names, or 0.

@@ -16,9 +16,9 @@ use Rattle.table.specs.declared.Board.{Board}
 use Rattle.table.specs.declared.Status.the-variants.{Idle}
 use Rattle.table.specs.declared.Holder.the-variants.{Free}
 use Rattle.table.specs.Entries.{loadedTask, loadedSem}
-use Rattle.table.specs.WellFormed.{taskInRange, semInRange, boardInRange}
+use Rattle.table.specs.WellFormed.{within, dueInRange, taskInRange, semInRange, boardInRange}
 use Rattle.table.proofs.SumLaws.{both, both-left, both-right}
-use Rattle.table.proofs.OrderLaws.{within-true, task-range, board-range}
+use Rattle.table.proofs.OrderLaws.{within-true, task-range, due-most, board-range}
 use Rattle.fields.specs.Fields.{bytesOf, readAt, putAt, allAre}
 use Rattle.fields.proofs.ByteLaws.{read-back, valueOf-bytesOf, all-replicate, all-stop}
 use Rattle.records.specs.declared.Decoded.{Decoded}
@@ -27,7 +27,7 @@ use Rattle.records.specs.Records.{Bytes, taskIn, boardIn, semIn, unlessO
 
 -- 32 zeros, with the kind and the fields of an entry put into them, are the entry's bytes
 pub task-put : (t : Task)
-    → putAt 4 (putAt 4 (putAt 2 (set (set (replicate 32 0) 0 1) 1 (t .queue)) 2 (t .number)) 4 (t .period)) 8 (t .cost) ≡ encodeTask t
+    → putAt 4 (putAt 4 (putAt 4 (putAt 2 (set (set (replicate 32 0) 0 1) 1 (t .queue)) 2 (t .number)) 4 (t .period)) 8 (t .cost)) 12 (t .due) ≡ encodeTask t
 unfolding putAt bytesOf encodeTask
 task-put t = refl
 
@@ -55,15 +55,17 @@ zeros l at n h e =
     sym (all-replicate 0 (drop at l) h ∙ ap (λ (m : ℕ). replicate m 0) k)
 
 -- what a record that is a task says of its bytes
-pub task-back : (r : List ℕ) → length r ≡ 32 → Bytes r → getD r 0 0 ≡ 1 → allAre 0 (drop 12 r) ≡ true → encodeTask (taskIn r) ≡ r
+pub task-back : (r : List ℕ) → length r ≡ 32 → Bytes r → getD r 0 0 ≡ 1 → allAre 0 (drop 16 r) ≡ true → encodeTask (taskIn r) ≡ r
 unfolding encodeTask taskIn
 task-back r n bytes kind rest =
     let q = getD r 1 0 in
-    ap (λ (m : List ℕ). 1 ∷ q ∷ (bytesOf 2 (readAt 2 r 2) ++ (bytesOf 4 (readAt 4 r 4) ++ (bytesOf 4 (readAt 4 r 8) ++ m)))) (zeros r 12 20 rest n)
-    ∙ (ap (λ (m : List ℕ). 1 ∷ q ∷ (bytesOf 2 (readAt 2 r 2) ++ (bytesOf 4 (readAt 4 r 4) ++ m))) (read-back r 8 4 (omega arith) bytes)
-    ∙ (ap (λ (m : List ℕ). 1 ∷ q ∷ (bytesOf 2 (readAt 2 r 2) ++ m)) (read-back r 4 4 (omega arith) bytes)
+    let f : (width : ℕ) → ℕ → List ℕ → List ℕ = λ width at m. bytesOf width (readAt width r at) ++ m in
+    ap (λ (m : List ℕ). 1 ∷ q ∷ f 2 2 (f 4 4 (f 4 8 (f 4 12 m)))) (zeros r 16 16 rest n)
+    ∙ (ap (λ (m : List ℕ). 1 ∷ q ∷ f 2 2 (f 4 4 (f 4 8 m))) (read-back r 12 4 (omega arith) bytes)
+    ∙ (ap (λ (m : List ℕ). 1 ∷ q ∷ f 2 2 (f 4 4 m)) (read-back r 8 4 (omega arith) bytes)
+    ∙ (ap (λ (m : List ℕ). 1 ∷ q ∷ f 2 2 m) (read-back r 4 4 (omega arith) bytes)
     ∙ (ap (λ (m : List ℕ). 1 ∷ q ∷ m) (read-back r 2 2 (omega arith) bytes)
-    ∙ two-back r (omega arith) 1 q kind refl)))
+    ∙ two-back r (omega arith) 1 q kind refl))))
 
 pub board-back : (r : List ℕ) → length r ≡ 32 → Bytes r → getD r 0 0 ≡ 2 → getD r 1 0 ≡ 0 → allAre 0 (drop 20 r) ≡ true → encodeBoard (boardIn r) ≡ r
 unfolding encodeBoard boardIn
@@ -119,7 +121,7 @@ not-erased r h e = all-stop 255 r 0 h e
 
 -- what was encoded is decoded to the same entry, as it is after loading
 pub decoded-task : (t : Task) → taskInRange t ≡ true → decoded (encodeTask t) ≡ TaskRecord (loadedTask t)
-unfolding decoded taskDecoded taskIn encodeTask bytesOf readAt allAre taskInRange
+unfolding decoded taskDecoded taskIn encodeTask bytesOf readAt allAre within dueInRange taskInRange
 decoded-task t h =
     let r = task-range t h in
     let same : taskIn (encodeTask t) ≡ loadedTask t =
@@ -128,6 +130,7 @@ decoded-task t h =
       deadline = 0;
       period = valueOf-bytesOf 4 (t .period) (omega arith) i;
       cost = valueOf-bytesOf 4 (t .cost) (omega arith) i;
+      due = valueOf-bytesOf 4 (t .due) (omega (arith, due-most t r)) i;
       number = valueOf-bytesOf 2 (t .number) (omega arith) i;
       queue = t .queue;
       status = Idle;
@@ -178,11 +181,11 @@ pub data Said (r : List ℕ) : Decoded → Type 0 where
   bad : Said r (Refused 4)
 
 module _ (r : List ℕ) (n : length r ≡ 32) (bytes : Bytes r) where
-  said-task : getD r 0 0 ≡ 1 → (t : Bool) → (taskInRange (taskIn r) && allAre 0 (drop 12 r)) ≡ t → Said r (unlessOutOfRange t (TaskRecord (taskIn r)))
+  said-task : getD r 0 0 ≡ 1 → (t : Bool) → (taskInRange (taskIn r) && allAre 0 (drop 16 r)) ≡ t → Said r (unlessOutOfRange t (TaskRecord (taskIn r)))
   unfolding unlessOutOfRange taskIn
   said-task k true h =
       let range = taskInRange (taskIn r) in
-      let rest = allAre 0 (drop 12 r) in
+      let rest = allAre 0 (drop 16 r) in
       task (task-back r n bytes k (both-right range rest h)) (both-left range rest h) refl
   said-task k false h = bad
 
@@ -222,7 +225,7 @@ module _ (r : List ℕ) (n : length r ≡ 32) (bytes : Bytes r) where
 
       first : (t : Bool) → eqb (getD r 0 0) 1 ≡ t
           → Said r (cond t (taskDecoded r) (cond (eqb (getD r 0 0) 2) (boardDecoded r) (cond (eqb (getD r 0 0) 3) (semDecoded r) (Refused 2))))
-      first true h = said-task (eqb-true (getD r 0 0) 1 h) (taskInRange (taskIn r) && allAre 0 (drop 12 r)) refl
+      first true h = said-task (eqb-true (getD r 0 0) 1 h) (taskInRange (taskIn r) && allAre 0 (drop 16 r)) refl
       first false h = second (eqb (getD r 0 0) 2) refl
 
       whole : (t : Bool) → allAre 255 r ≡ t
@@ -251,7 +254,7 @@ plain r =
     let first = cond (kind 1) (taskDecoded r) second in
     let entry : (fits : Bool) (d : Decoded) → Plain d → Plain (cond fits d (Refused 4)) = λ fits d p. one-of fits d (Refused 4) p (inr refl) in
     one-of (allAre 255 r) Erased first tt
-    (one-of (kind 1) (taskDecoded r) second (entry (taskInRange (taskIn r) && allAre 0 (drop 12 r)) (TaskRecord (taskIn r)) tt)
+    (one-of (kind 1) (taskDecoded r) second (entry (taskInRange (taskIn r) && allAre 0 (drop 16 r)) (TaskRecord (taskIn r)) tt)
     (one-of (kind 2) (boardDecoded r) third (entry (eqb (getD r 1 0) 0 && boardInRange (boardIn r) && allAre 0 (drop 20 r)) (BoardRecord (boardIn r)) tt)
     (one-of (kind 3) (semDecoded r) (Refused 2) (entry (eqb (getD r 1 0) 0 && semInRange (semIn r) && allAre 0 (drop 4 r)) (SemRecord (semIn r)) tt) (inl refl))))
 

@@ -14,13 +14,14 @@ use Rattle.fields.specs.Fields.{bytesOf, readAt, allAre}
 use Rattle.records.specs.declared.Decoded.{Decoded}
 use Rattle.records.specs.declared.Decoded.the-variants.{Erased, TaskRecord, BoardRecord, SemRecord, Refused}
 
--- kind 1: byte 1 queue; 2..3 number; 4..7 period; 8..11 cost. All tasks are idle after loading, with deadline 0 (01, "Dispatch")
+-- kind 1: byte 1 queue; 2..3 number; 4..7 period; 8..11 cost; 12..15 deadline (02, a)). All tasks are idle after loading, with deadline 0 (01, "Dispatch")
 unfoldable pub taskIn : List ℕ → Task
 taskIn r =
     record {
       deadline = 0;
       period = readAt 4 r 4;
       cost = readAt 4 r 8;
+      due = readAt 4 r 12;
       number = readAt 2 r 2;
       queue = getD r 1 0;
       status = Idle;
@@ -49,9 +50,9 @@ semIn r = record { number = readAt 2 r 2; holder = Free }
 unfoldable pub unlessOutOfRange : Bool → Decoded → Decoded
 unlessOutOfRange fits entry = cond fits entry (Refused 4)
 
--- kind 1: 12..31 zero
+-- kind 1: 16..31 zero
 unfoldable pub taskDecoded : List ℕ → Decoded
-taskDecoded r = unlessOutOfRange (taskInRange (taskIn r) && allAre 0 (drop 12 r)) (TaskRecord (taskIn r))
+taskDecoded r = unlessOutOfRange (taskInRange (taskIn r) && allAre 0 (drop 16 r)) (TaskRecord (taskIn r))
 
 -- kind 2: byte 1 zero; 20..31 zero
 unfoldable pub boardDecoded : List ℕ → Decoded
@@ -72,7 +73,7 @@ decoded r =
 
 -- the bytes of a task, of a board and of a semaphore, as 01's table prints them
 unfoldable pub encodeTask : Task → List ℕ
-encodeTask t = 1 ∷ t .queue ∷ (bytesOf 2 (t .number) ++ (bytesOf 4 (t .period) ++ (bytesOf 4 (t .cost) ++ replicate 20 0)))
+encodeTask t = 1 ∷ t .queue ∷ (bytesOf 2 (t .number) ++ (bytesOf 4 (t .period) ++ (bytesOf 4 (t .cost) ++ (bytesOf 4 (t .due) ++ replicate 16 0))))
 
 unfoldable pub encodeBoard : Board → List ℕ
 encodeBoard b =

@@ -51,7 +51,7 @@ fn decode_task(part: &[u8]) -> Decoded
     ensures { λ r. ⌜ r ≡ taskDecoded (now (part .entry)) ⌝ }
 {
     let task = task_at(part);
-    if !clean(0, ranges::task_in_range(task), &part[12..32]) {
+    if !clean(0, ranges::task_in_range(task), &part[16..32]) {
         return Decoded::Refused(numbers::OUT_OF_RANGE);
     }
     Decoded::TaskRecord(task)
@@ -100,6 +100,7 @@ fn task_at(part: &[u8]) -> Task
         deadline: 0,
         period: fields::u32_at(part, 4),
         cost: fields::u32_at(part, 8),
+        due: fields::u32_at(part, 12),
         number: fields::u16_at(part, 2),
         queue: part[1],
         status: Status::Idle,
@@ -154,6 +155,7 @@ pub fn put_task(task: Task, part: &mut [u8])
     fields::put_u16(part, 2, task.number);
     fields::put_u32(part, 4, task.period);
     fields::put_u32(part, 8, task.cost);
+    fields::put_u32(part, 12, task.due);
 }
 
 pub fn put_sem(sem: Sem, part: &mut [u8])

@@ -2,21 +2,23 @@
 -- Assumes nothing.
 use Prim.Native.Nat.{ℕ, zero, suc, _≤_, _<_}
 use mathlib.Core.Path.{_≡_, refl, sym, ap, _∙_}
-use mathlib.Core.Bool.{Bool, true, false, not, _&&_}
+use mathlib.Core.Bool.{Bool, true, false, cond, not, _&&_, _||_}
+use mathlib.Core.Logic.{_⊎_, inl, inr}
 use mathlib.Core.List.{List, [], _∷_, map}
 use native.Mathlib.Nat.{le-of-suc-le-suc, not-suc-le-zero}
 use native.Mathlib.Omega.{arith}
 use lib.Dec.{leb, ltb, eqb}
 use lib.ListN.{length, getD, length-map}
-use borrow.Author.Tests.{leb-true, le-leb, ltb-true, eq-eqb, not-true}
+use borrow.Author.Tests.{leb-true, le-leb, ltb-true, lt-ltb, eqb-true, eqb-false, eq-eqb, not-true}
 use Rattle.table.specs.declared.Board.{Board}
 use Rattle.table.specs.declared.Task.{Task}
 use Rattle.table.specs.declared.Sem.{Sem}
-use Rattle.table.specs.Entries.{builtIn}
+use Rattle.table.specs.Entries.{builtIn, spanOf}
 use Rattle.table.specs.Sums.{every, any}
 use Rattle.table.specs.Entries.{loadedTask, loadedSem}
 use Rattle.table.specs.WellFormed.{
   within,
+  dueInRange,
   taskInRange,
   semInRange,
   boardInRange,
@@ -27,7 +29,7 @@ use Rattle.table.specs.WellFormed.{
   usedOnce,
   WellFormed,
 }
-use Rattle.table.proofs.SumLaws.{both, both-left, both-right, any-none, any-map, every-map}
+use Rattle.table.proofs.SumLaws.{both, both-left, both-right, either-right, any-none, any-map, every-map}
 
 -- a value that lies within its bounds, and back
 pub within-true : (least value most : ℕ) → within least value most ≡ true → (least ≤ value) × (value ≤ most)
@@ -39,6 +41,42 @@ pub true-within : (least value most : ℕ) → least ≤ value → value ≤ mos
 unfolding within
 true-within least value most h k = both (leb least value) (leb value most) (le-leb least value h) (le-leb value most k)
 
+-- a deadline in its range: none, or an FP task's, with room for the cost and before the period's end
+pub record OwnDue (t : Task) : Type 0 where
+  pub fixed : t .queue ≡ 3
+  pub least : t .cost ≤ t .due
+  pub most : t .due < t .period
+
+abbrev pub DueRange : Task → Type 0
+DueRange t = (t .due ≡ 0) ⊎ OwnDue t
+
+pub due-range : (t : Task) → dueInRange t ≡ true → DueRange t
+unfolding dueInRange
+due-range t h = none (eqb (t .due) 0) refl h
+  where
+    none : (z : Bool) → eqb (t .due) 0 ≡ z → (z || (eqb (t .queue) 3 && leb (t .cost) (t .due) && ltb (t .due) (t .period))) ≡ true → DueRange t
+    none true e h = inl (eqb-true (t .due) 0 e)
+    none false e h =
+        let q = eqb (t .queue) 3 in
+        let c = leb (t .cost) (t .due) in
+        let p = ltb (t .due) (t .period) in
+        let qc = both-left (q && c) p h in
+        inr (record {
+          fixed = eqb-true (t .queue) 3 (both-left q c qc);
+          least = leb-true (t .cost) (t .due) (both-right q c qc);
+          most = ltb-true (t .due) (t .period) (both-right (q && c) p h);
+        })
+
+pub due-in-range : (t : Task) → DueRange t → dueInRange t ≡ true
+unfolding dueInRange
+due-in-range t (inl z) = simp (eq-eqb (t .due) 0 z)
+due-in-range t (inr own) =
+    let q = eqb (t .queue) 3 in
+    let c = leb (t .cost) (t .due) in
+    let p = ltb (t .due) (t .period) in
+    either-right (eqb (t .due) 0) (q && c && p)
+    (both (q && c) p (both q c (eq-eqb (t .queue) 3 (own .fixed)) (le-leb (t .cost) (t .due) (own .least))) (lt-ltb (t .due) (t .period) (own .most)))
+
 -- a task in range, field by field
 pub record TaskRange (t : Task) : Type 0 where
   pub queueLeast : 1 ≤ t .queue
@@ -49,6 +87,7 @@ pub record TaskRange (t : Task) : Type 0 where
   pub periodMost : t .period ≤ 100000000
   pub costLeast : 1 ≤ t .cost
   pub costMost : t .cost ≤ t .period
+  pub due : DueRange t
 
 pub task-range : (t : Task) → taskInRange t ≡ true → TaskRange t
 unfolding taskInRange
@@ -57,12 +96,14 @@ task-range t h =
     let n = within 1 (t .number) 65535 in
     let p = within 1000 (t .period) 100000000 in
     let c = within 1 (t .cost) (t .period) in
-    let qnp = both-left (q && n && p) c h in
+    let d = dueInRange t in
+    let qnpc = both-left (q && n && p && c) d h in
+    let qnp = both-left (q && n && p) c qnpc in
     let qn = both-left (q && n) p qnp in
     let wq = within-true 1 (t .queue) 3 (both-left q n qn) in
     let wn = within-true 1 (t .number) 65535 (both-right q n qn) in
     let wp = within-true 1000 (t .period) 100000000 (both-right (q && n) p qnp) in
-    let wc = within-true 1 (t .cost) (t .period) (both-right (q && n && p) c h) in
+    let wc = within-true 1 (t .cost) (t .period) (both-right (q && n && p) c qnpc) in
     record {
       queueLeast = wq .0;
       queueMost = wq .1;
@@ -72,7 +113,30 @@ task-range t h =
       periodMost = wp .1;
       costLeast = wc .0;
       costMost = wc .1;
+      due = due-range t (both-right (q && n && p && c) d h);
     }
+
+-- a deadline is no longer than the period, and the span that it gives has room for the cost and ends by the period
+pub due-most : (t : Task) → TaskRange t → t .due ≤ t .period
+due-most t r = by-case (r .due)
+  where
+    by-case : DueRange t → t .due ≤ t .period
+    by-case (inl z) = omega arith
+    by-case (inr own) = omega (arith, own .most)
+
+pub span-range : (t : Task) → TaskRange t → (t .cost ≤ spanOf t) × (spanOf t ≤ t .period)
+unfolding spanOf
+span-range t r = by-case (eqb (t .due) 0) refl (r .due)
+  where
+    by-case : (z : Bool) → eqb (t .due) 0 ≡ z → DueRange t → (t .cost ≤ cond z (t .period) (t .due)) × (cond z (t .period) (t .due) ≤ t .period)
+    by-case true e d = (r .costMost, omega arith)
+    by-case false e (inl z) = absurd (eqb-false (t .due) 0 e z)
+    by-case false e (inr own) = (own .least, omega (arith, own .most))
+
+-- zero means the period
+pub span-none : (t : Task) → t .due ≡ 0 → spanOf t ≡ t .period
+unfolding spanOf
+span-none t z = rw (eq-eqb (t .due) 0 z)
 
 -- the figures of a board in range
 pub record BoardRange (b : Board) : Type 0 where
@@ -154,11 +218,13 @@ task-in-range t r =
     let n = within 1 (t .number) 65535 in
     let p = within 1000 (t .period) 100000000 in
     let c = within 1 (t .cost) (t .period) in
-    both (q && n && p) c
+    both (q && n && p && c) (dueInRange t)
+    (both (q && n && p) c
     (both (q && n) p
     (both q n (true-within 1 (t .queue) 3 (r .queueLeast) (r .queueMost)) (true-within 1 (t .number) 65535 (r .numberLeast) (r .numberMost)))
     (true-within 1000 (t .period) 100000000 (r .periodLeast) (r .periodMost)))
-    (true-within 1 (t .cost) (t .period) (r .costLeast) (r .costMost))
+    (true-within 1 (t .cost) (t .period) (r .costLeast) (r .costMost)))
+    (due-in-range t (r .due))
 
 pub board-in-range : (b : Board) → BoardRange b → boardInRange b ≡ true
 unfolding boardInRange
@@ -223,7 +289,7 @@ once-map (x ∷ xs) =
 -- well formed
 pub well-formed-same : (tasks tasks' : List Task) (sems sems' : List Sem) (board : Board) (present : Bool) → map loadedTask tasks' ≡ map loadedTask tasks
     → map loadedSem sems' ≡ map loadedSem sems → WellFormed tasks sems board present → WellFormed tasks' sems' board present
-unfolding taskInRange taskBefore semInRange semBefore
+unfolding dueInRange taskInRange taskBefore semInRange semBefore
 well-formed-same tasks tasks' sems sems' board present t s w =
     let n : length tasks' ≡ length tasks = sym (length-map tasks' loadedTask) ∙ ap length t ∙ length-map tasks loadedTask in
     let m : length sems' ≡ length sems = sym (length-map sems' loadedSem) ∙ ap length s ∙ length-map sems loadedSem in

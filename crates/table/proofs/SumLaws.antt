@@ -28,6 +28,11 @@ pub neither : (a b : Bool) → (a || b) ≡ false → (a ≡ false) × (b ≡ fa
 neither true b h = let z : _≡_ {A = ℕ} 0 1 = cc in absurd (omega arith)
 neither false b h = (refl, h)
 
+-- a disjunction whose second half holds
+pub either-right : (a b : Bool) → b ≡ true → (a || b) ≡ true
+either-right true b h = refl
+either-right false b h = h
+
 -- a count's gate is at most 1
 gate-small : (b : Bool) → cond b 1 0 ≤ 1
 gate-small true = omega arith

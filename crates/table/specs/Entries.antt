@@ -1,5 +1,7 @@
 -- The entries of a table.
 use Prim.Native.Nat.{ℕ}
+use mathlib.Core.Bool.{cond}
+use lib.Dec.{eqb}
 use Rattle.table.specs.declared.Board.{Board}
 use Rattle.table.specs.declared.Task.{Task}
 use Rattle.table.specs.declared.Sem.{Sem}
@@ -40,15 +42,15 @@ noFigures =
 
 -- what stands at a place that no task has
 abbrev pub blankTask : Task
-blankTask = record { deadline = 0; period = 0; cost = 0; number = 0; queue = 0; status = Idle }
+blankTask = record { deadline = 0; period = 0; cost = 0; due = 0; number = 0; queue = 0; status = Idle }
 
 -- what stands at a place that no semaphore has
 abbrev pub blankSem : Sem
 blankSem = record { number = 0; holder = Free }
 
--- 01, "The image": a deadline is release time plus period. The span from release to deadline (request a) moves it)
+-- 02, a): the time from a release to its deadline is the deadline in the task's record, where zero means the period
 unfoldable pub spanOf : Task → ℕ
-spanOf t = t .period
+spanOf t = cond (eqb (t .due) 0) (t .period) (t .due)
 
 -- the same task, doing something else
 abbrev pub withStatus : Task → Status → Task
@@ -57,6 +59,7 @@ withStatus t now =
       deadline = t .deadline;
       period = t .period;
       cost = t .cost;
+      due = t .due;
       number = t .number;
       queue = t .queue;
       status = now;
@@ -69,6 +72,7 @@ withDeadline t at =
       deadline = at;
       period = t .period;
       cost = t .cost;
+      due = t .due;
       number = t .number;
       queue = t .queue;
       status = t .status;

@@ -15,13 +15,18 @@ use Rattle.table.specs.Sums.{every, any}
 unfoldable pub within : ℕ → ℕ → ℕ → Bool
 within least value most = leb least value && leb value most
 
--- 01, "The image", kind 1: queue 1 to 3; number 1 to 65,535; period 1,000 to 100,000,000 ticks; cost 1 to the period
+-- 02, a): the deadline in a task's record is zero, or lies from the cost to one less than the period, and only in FP
+unfoldable pub dueInRange : Task → Bool
+dueInRange t = eqb (t .due) 0 || (eqb (t .queue) 3 && leb (t .cost) (t .due) && ltb (t .due) (t .period))
+
+-- 01, "The image", kind 1: queue 1 to 3; number 1 to 65,535; period 1,000 to 100,000,000 ticks; cost 1 to the period; and its deadline
 unfoldable pub taskInRange : Task → Bool
 taskInRange t =
     within 1 (t .queue) 3
     && within 1 (t .number) 65535
     && within 1000 (t .period) 100000000
     && within 1 (t .cost) (t .period)
+    && dueInRange t
 
 -- 01, "The image", kind 3: number 1 to 65,535
 unfoldable pub semInRange : Sem → Bool

@@ -1,7 +1,7 @@
 // The entries of a rack's table, the limits and the numbers of document 01, and the built-in figures of the board.
 ghost use mathlib.Core.Path.{_≡_};
 ghost use Rattle.table.specs.Entries.{builtIn, noFigures, blankTask, blankSem};
-ghost use Rattle.table.specs.Entries.{withStatus, withDeadline, withHolder};
+ghost use Rattle.table.specs.Entries.{spanOf, withStatus, withDeadline, withHolder};
 
 pub mod limits;
 pub mod numbers;
@@ -27,11 +27,13 @@ pub enum Found {
     Nothing,
 }
 
-// A task. The wide fields stand first, so that an entry has no gaps.
+// A task. The wide fields stand first, so that an entry has no gaps. `due` is the deadline as the record has it, in ticks
+// from a release, 0 for the period; `deadline` is that of the last release.
 pub struct Task {
     pub deadline: u64,
     pub period: u32,
     pub cost: u32,
+    pub due: u32,
     pub number: u16,
     pub queue: u8,
     pub status: Status,
@@ -118,6 +120,7 @@ impl Task {
             deadline: 0,
             period: 0,
             cost: 0,
+            due: 0,
             number: 0,
             queue: 0,
             status: Status::Idle,
@@ -132,6 +135,7 @@ impl Task {
             deadline: self.deadline,
             period: self.period,
             cost: self.cost,
+            due: self.due,
             number: self.number,
             queue: self.queue,
             status,
@@ -144,6 +148,16 @@ impl Task {
     {
         self.deadline = deadline;
         self
+    }
+
+    // The time from a release to its deadline.
+    pub fn span(self) -> u32
+        ensures { λ r. ⌜ r ≡ spanOf self ⌝ }
+    {
+        if self.due == 0 {
+            return self.period;
+        }
+        self.due
     }
 }
 

@@ -2,7 +2,7 @@
 // it, as the definitions have it.
 ghost use mathlib.Core.Path.{_≡_};
 ghost use mathlib.Core.Bool.{_&&_};
-ghost use Rattle.table.specs.WellFormed.{within, taskInRange, semInRange, boardInRange, taskBefore, semBefore};
+ghost use Rattle.table.specs.WellFormed.{within, dueInRange, taskInRange, semInRange, boardInRange, taskBefore, semBefore};
 use crate::Board;
 use crate::Sem;
 use crate::Task;
@@ -18,18 +18,26 @@ pub fn task_in_range(task: Task) -> bool
     }
 }
 
-// The number, the period and the cost.
+// The number, the period, the cost and the deadline.
 fn fields_in_range(task: Task) -> bool
     ensures { λ r.
         ⌜ r
         ≡ (within 1 (task .number) 65535
         && within 1000 (task .period) 100000000
-        && within 1 (task .cost) (task .period)) ⌝ }
+        && within 1 (task .cost) (task .period)
+        && dueInRange task) ⌝ }
 {
     let number = (1 <= task.number) & (task.number <= limits::NUMBER_MOST);
     let period = (limits::PERIOD_LEAST <= task.period) & (task.period <= limits::PERIOD_MOST);
     let cost = (1 <= task.cost) & (task.cost <= task.period);
-    number & period & cost
+    number & period & cost & due_in_range(task)
+}
+
+// A deadline of its own leaves room for the cost, falls before the period's end, and only an FP task has one.
+fn due_in_range(task: Task) -> bool
+    ensures { λ r. ⌜ r ≡ dueInRange task ⌝ }
+{
+    (task.due == 0) | ((task.queue == 3) & (task.cost <= task.due) & (task.due < task.period))
 }
 
 pub fn sem_in_range(sem: Sem) -> bool

@@ -9,4 +9,5 @@ pub mod PlayedCases
 pub mod Replay
 pub mod Shown
 pub mod ShutOut
+pub mod Spanned
 pub mod Undone

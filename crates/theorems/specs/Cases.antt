@@ -69,7 +69,7 @@ Holds (undone table steps others) =
 
 -- a task as it is loaded
 abbrev pub task : ℕ → ℕ → ℕ → ℕ → Task
-task queue number period cost = record { deadline = 0; period = period; cost = cost; number = number; queue = queue; status = Idle }
+task queue number period cost = record { deadline = 0; period = period; cost = cost; due = 0; number = number; queue = queue; status = Idle }
 
 -- the source's Table 1 workload, tasks 1 to 10, in the queues of the first four, the fifth and the rest
 abbrev pub workload : ℕ → ℕ → ℕ → List Task

@@ -5,6 +5,7 @@ pub mod Conditions
 pub mod Demands
 pub mod Histories
 pub mod Loads
+pub mod Spans
 pub mod StandIns
 pub mod Standings
 pub mod Undo

@@ -38,6 +38,8 @@ use Rattle.table.proofs.Task.with_status.Reads as task-with-status
 use Rattle.table.proofs.Task.with_status.Kinds as task-with-status-kinds
 use Rattle.table.proofs.Task.with_deadline.Reads as task-with-deadline
 use Rattle.table.proofs.Task.with_deadline.Kinds as task-with-deadline-kinds
+use Rattle.table.proofs.Task.span.Reads as task-span
+use Rattle.table.proofs.Task.span.Kinds as task-span-kinds
 use Rattle.table.proofs.Sem.blank.Reads as sem-blank
 use Rattle.table.proofs.Sem.blank.Kinds as sem-blank-kinds
 use Rattle.table.proofs.Sem.with_holder.Reads as sem-with-holder
@@ -200,6 +202,10 @@ task-with-status-one κs a z z′ e e′ p q = p ∙ sym q
 -- table::Task::with_deadline
 pub task-with-deadline-one : OneResult 0 task-with-deadline-kinds.ps task-with-deadline-kinds.r task-with-deadline.Post
 task-with-deadline-one κs a z z′ e e′ p q = p ∙ sym q
+
+-- table::Task::span
+pub task-span-one : OneResult 0 task-span-kinds.ps task-span-kinds.r task-span.Post
+task-span-one κs a z z′ e e′ p q = p ∙ sym q
 
 -- table::Sem::blank
 pub sem-blank-one : OneResult 0 sem-blank-kinds.ps sem-blank-kinds.r sem-blank.Post

@@ -32,14 +32,14 @@ unfolding taskDecoded
 returns c =
     let r = now (c .before .before .before .before .before .before .args .part) in
     says-refused 0 taskInRange TaskRecord (c .before .before .before .before .task-at .result) (taskIn r) (c .before .before .before .before .task-at .ensures) (c .before .before .before .task-in-range .result)
-    (c .before .before .before .task-in-range .ensures) r 12 20 (c .before .before .before .before .before .before .pre) (c .before .clean .result) (c .before .clean .ensures) (c .if1 .taken)
+    (c .before .before .before .task-in-range .ensures) r 16 16 (c .before .before .before .before .before .before .pre) (c .before .clean .result) (c .before .clean .ensures) (c .if1 .taken)
 
 returns-2 : tie.Need-returns-2
 unfolding taskDecoded
 returns-2 c =
     let r = now (c .before .before .before .before .before .before .args .part) in
     says-entry 0 taskInRange TaskRecord (c .before .before .before .before .task-at .result) (taskIn r) (c .before .before .before .before .task-at .ensures) (c .before .before .before .task-in-range .result)
-    (c .before .before .before .task-in-range .ensures) r 12 20 (c .before .before .before .before .before .before .pre) (c .before .clean .result) (c .before .clean .ensures) (c .if1 .left)
+    (c .before .before .before .task-in-range .ensures) r 16 16 (c .before .before .before .before .before .before .pre) (c .before .clean .result) (c .before .clean .ensures) (c .if1 .left)
 
 pub decode-task-spec : {M : Type 1} → statement M
 decode-task-spec =

@@ -7,9 +7,10 @@ use mathlib.Core.List.{List, map}
 use native.Mathlib.Omega.{arith}
 use lib.ListN.{length, getD, take, set, length-set}
 use Rattle.table.specs.declared.Task.{Task}
+use Rattle.table.specs.Entries.{spanOf}
 use Rattle.charges.specs.Charges.{loadBy, loadOf}
 use Rattle.charges.proofs.ChargeLaws.{load-of, fit-of}
-use Rattle.judging.specs.Columns.{columns, columnsOf}
+use Rattle.judging.specs.Columns.{columns, withSpans, columnsOf}
 use Rattle.judging.proofs.ColumnLaws.{column-more, map-same}
 use Rattle.judging.proofs.judge.columns_of.Statement.{statement}
 use Rattle.judging.proofs.judge.columns_of.Tie as tie
@@ -19,17 +20,21 @@ abbrev Filled : (Task → ℕ) → List Task → ℕ → List ℕ → Type 0
 Filled f tasks i column = (length column ≡ 64) × (take i column ≡ map f (take i tasks))
 
 abbrev Inv-loop : tie.InvT-loop
-Inv-loop n tasks counts queues₀ periods₀ loads₀ i₀ queues periods loads i =
-    (i ≤ n) × Filled (λ t. t .queue) tasks i queues × Filled (λ t. t .period) tasks i periods × Filled (loadBy counts) tasks i loads
+Inv-loop n tasks counts queues₀ periods₀ loads₀ spans₀ i₀ queues periods loads spans i =
+    (i ≤ n)
+    × Filled (λ t. t .queue) tasks i queues
+    × Filled (λ t. t .period) tasks i periods
+    × Filled (loadBy counts) tasks i loads
+    × Filled spanOf tasks i spans
 
 abbrev μ-loop : tie.MeasureT-loop
-μ-loop n tasks counts queues₀ periods₀ loads₀ i₀ queues periods loads i = n - i
+μ-loop n tasks counts queues₀ periods₀ loads₀ spans₀ i₀ queues periods loads spans i = n - i
 
 of-requires : tie.Need-of-requires Inv-loop μ-loop
 of-requires c κs = search needs
 
 loop-holds : tie.Need-loop-holds Inv-loop μ-loop
-loop-holds c = (omega arith, (refl, refl), (refl, refl), (refl, refl))
+loop-holds c = (omega arith, (refl, refl), (refl, refl), (refl, refl), (refl, refl))
 
 mul-t : tie.Need-mul-t Inv-loop μ-loop
 mul-t c = search needs
@@ -58,6 +63,18 @@ mul-loads c = search needs
 array-write-loads : tie.Need-array-write-loads Inv-loop μ-loop
 array-write-loads c = search needs
 
+span-requires : tie.Need-span-requires Inv-loop μ-loop
+span-requires c κs = search needs
+
+cast-spans : tie.Need-cast-spans Inv-loop μ-loop
+cast-spans c = search needs
+
+mul-spans : tie.Need-mul-spans Inv-loop μ-loop
+mul-spans c = search needs
+
+array-write-spans : tie.Need-array-write-spans Inv-loop μ-loop
+array-write-spans c = search needs
+
 add-i : tie.Need-add-i Inv-loop μ-loop
 add-i c = search needs
 
@@ -72,15 +89,17 @@ more f tasks i column d t l h =
 
 loop-again : tie.Need-loop-again Inv-loop μ-loop
 loop-again c =
-    let a = c .before .before .before .before .before .before .args in
-    let l = c .before .before .before .before .loop in
+    let a = c .before .before .before .before .before .before .before .args in
+    let l = c .before .before .before .before .before .loop in
     let t : l .i < length (a .t1) = search needs in
     let r : l .i < 64 = omega arith in
-    let loads = more (loadBy (c .before .before .before .before .before .of .result)) (a .t1) (l .i) (l .loads) _ t r (l .inv .3) in (
+    let loads = more (loadBy (c .before .before .before .before .before .before .of .result)) (a .t1) (l .i) (l .loads) _ t r (l .inv .3) in
+    let spans = more spanOf (a .t1) (l .i) (l .spans) _ t r (l .inv .4) in (
       omega arith,
       more (λ (t : Task). t .queue) (a .t1) (l .i) (l .queues) _ t r (l .inv .1),
       more (λ (t : Task). t .period) (a .t1) (l .i) (l .periods) _ t r (l .inv .2),
-      rw (c .load .ensures) loads,
+      rw (c .before .load .ensures) loads,
+      rw (c .span .ensures) spans,
     )
 
 returns : tie.Need-returns Inv-loop μ-loop
@@ -100,7 +119,8 @@ returns c =
     in
     let queues = at-end (λ (t : Task). t .queue) (l .queues) (l .inv .1) in
     let periods = at-end (λ (t : Task). t .period) (l .periods) (l .inv .2) in
-    λ i. columns (queues i) (periods i) (loads i)
+    let spans = at-end spanOf (l .spans) (l .inv .4) in
+    λ i. withSpans (columns (queues i) (periods i) (loads i)) (spans i)
 
 pub columns-of-spec : {M : Type 1} → statement M
 columns-of-spec =
@@ -119,6 +139,10 @@ columns-of-spec =
     load-requires
     mul-loads
     array-write-loads
+    span-requires
+    cast-spans
+    mul-spans
+    array-write-spans
     add-i
     loop-less
     loop-again

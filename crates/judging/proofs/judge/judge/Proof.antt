@@ -16,9 +16,18 @@ use Rattle.executive.specs.Sound.{Sound}
 use Rattle.judging.specs.declared.Columns.{Columns}
 use Rattle.judging.specs.declared.Outcome.{Outcome}
 use Rattle.judging.specs.Columns.{firstTasks, columnsOf}
-use Rattle.judging.specs.Ranges.{InRange}
+use Rattle.judging.specs.Ranges.{InRange, SpansInRange}
 use Rattle.judging.specs.Verdicts.{outcomeOf, named, verdictOf}
-use Rattle.judging.proofs.ColumnLaws.{getD-any, queues-length, periods-length, loads-length, columns-range}
+use Rattle.judging.proofs.ColumnLaws.{
+  getD-any,
+  queues-length,
+  periods-length,
+  loads-length,
+  spans-length,
+  columns-range,
+  spans-range,
+  unspanned,
+}
 use Rattle.judging.proofs.VerdictLaws.{outcome-below, named-task, named-none}
 use Rattle.judging.proofs.judge.judge.Statement.{statement}
 use Rattle.judging.proofs.judge.judge.Tie as tie
@@ -39,6 +48,9 @@ module _ (s : State) (sound : Sound s) where
   range =
       columns-range (tasksOf s) (s .board) (semsOf s) (s .present) (omega (arith, size, sound .sized .tasksFit))
       (λ k. sound .table (omega (arith, size)))
+
+  spanned : SpansInRange (length (own .queues)) (own .spans)
+  spanned = spans-range (tasksOf s) (s .board) (semsOf s) (s .present) (λ k. sound .table (omega (arith, size)))
 
 module _ (c : tie.After-columns-of) where
   abbrev s : State
@@ -65,39 +77,49 @@ module _ (c : tie.After-columns-of) where
   loads : s .n ≡ length (take (s .n) (c .columns-of .result .loads))
   loads = entries (λ x. x .loads) (loads-length (tasksOf s) (s .board))
 
+  spans : s .n ≡ length (take (s .n) (c .columns-of .result .spans))
+  spans = entries (λ x. x .spans) (spans-length (tasksOf s) (s .board))
+
 -- a list from which n entries are taken has them
 reach : (n : ℕ) (list : List ℕ) → n ≡ length (take n list) → n ≤ length list
 reach n list e = omega (arith, length-take n list)
 
 array-share-prefix-queues : tie.Need-array-share-prefix-queues
-array-share-prefix-queues c = reach _ _ (queues (c .before .before .before))
+array-share-prefix-queues c = reach _ _ (queues (c .before .before .before .before))
 
 slice-aggregate-outcome : tie.Need-slice-aggregate-outcome
-slice-aggregate-outcome c = queues (c .before .before .before .before)
+slice-aggregate-outcome c = queues (c .before .before .before .before .before)
 
 array-share-prefix-periods : tie.Need-array-share-prefix-periods
-array-share-prefix-periods c = reach _ _ (periods (c .before .before .before .before))
+array-share-prefix-periods c = reach _ _ (periods (c .before .before .before .before .before))
 
 slice-aggregate-outcome-2 : tie.Need-slice-aggregate-outcome-2
-slice-aggregate-outcome-2 c = periods (c .before .before .before .before .before)
+slice-aggregate-outcome-2 c = periods (c .before .before .before .before .before .before)
 
 array-share-prefix-loads : tie.Need-array-share-prefix-loads
-array-share-prefix-loads c = reach _ _ (loads (c .before .before .before .before .before))
+array-share-prefix-loads c = reach _ _ (loads (c .before .before .before .before .before .before))
 
 slice-aggregate-outcome-3 : tie.Need-slice-aggregate-outcome-3
-slice-aggregate-outcome-3 c = loads (c .before .before .before .before .before .before)
+slice-aggregate-outcome-3 c = loads (c .before .before .before .before .before .before .before)
+
+array-share-prefix-spans : tie.Need-array-share-prefix-spans
+array-share-prefix-spans c = reach _ _ (spans (c .before .before .before .before .before .before .before))
+
+slice-aggregate-outcome-4 : tie.Need-slice-aggregate-outcome-4
+slice-aggregate-outcome-4 c = spans (c .before .before .before .before .before .before .before .before)
 
 outcome-requires : tie.Need-outcome-requires
 outcome-requires c κs =
-    let m = c .before .before .before .before .before .before in
-    subst (λ (x : Columns). InRange x) (sym (made m)) (range (s m) (sound m))
+    let m = c .before .before .before .before .before .before .before .before in
+    let o = subst (λ (x : Columns). InRange x × SpansInRange (length (x .queues)) (x .spans)) (sym (made m)) (range (s m) (sound m), spanned (s m) (sound m)) in
+    (unspanned _ (o .0), o .1)
 
 enum-known-place : tie.Need-enum-known-place
 enum-known-place c = search needs
 
 module _ (c : tie.After-outcome) where
   abbrev m : tie.After-columns-of
-  m = c .before .before .before .before .before .before .before
+  m = c .before .before .before .before .before .before .before .before .before
 
   -- what the tests answer, of the state's own tasks
   judged : c .outcome .result ≡ outcomeOf (own (s m) (sound m))
@@ -109,11 +131,11 @@ module _ (c : tie.After-outcome) where
       let o = outcome-below (own (s m) (sound m)) i (ap (λ (x : Outcome). x .place) (sym judged) ∙ e) in
       omega (arith, o, queues-length (tasksOf (s m)) (s m .board), size (s m) (sound m))
 
-mul-t19 : tie.Need-mul-t19
-mul-t19 c = omega (arith, inside (c .before .before .before) _ (c .before .place .given .1))
+mul-t22 : tie.Need-mul-t22
+mul-t22 c = omega (arith, inside (c .before .before .before) _ (c .before .place .given .1))
 
-element-copy-out-t22 : tie.Need-element-copy-out-t22
-element-copy-out-t22 c =
+element-copy-out-t25 : tie.Need-element-copy-out-t25
+element-copy-out-t25 c =
     omega (arith, inside (c .before .before .before) _ (c .before .place .given .1), sound (m (c .before .before .before)) .sized .tasksFit)
 
 enum-told : tie.Need-enum-told
@@ -148,10 +170,12 @@ judge-spec =
     slice-aggregate-outcome-2
     array-share-prefix-loads
     slice-aggregate-outcome-3
+    array-share-prefix-spans
+    slice-aggregate-outcome-4
     outcome-requires
     enum-known-place
-    mul-t19
-    element-copy-out-t22
+    mul-t22
+    element-copy-out-t25
     enum-told
     returns
     returns-2)

@@ -3,17 +3,18 @@
 use borrow.Author.Needs.{needs}
 use Prim.Native.Nat.{ℕ, _≤_}
 use mathlib.Core.Path.{_≡_, sym, subst, _∙_}
-use mathlib.Core.Bool.{false}
+use mathlib.Core.Bool.{Bool, false}
 use native.Mathlib.Omega.{arith}
 use borrow.Author.Tests.{eq-eqb, ne-eqb}
 use lib.Dec.{eqb}
 use lib.ListN.{length}
 use Rattle.table.specs.declared.Found.the-variants.{Nothing}
 use Rattle.judging.specs.declared.Columns.{Columns}
-use Rattle.judging.specs.Columns.{columns}
+use Rattle.judging.specs.Columns.{columns, withSpans}
 use Rattle.judging.specs.Periods.{sharedPeriod, overFull}
 use Rattle.judging.specs.Ranges.{Common}
 use Rattle.judging.specs.Verdicts.{firstLong}
+use Rattle.judging.proofs.FractionLaws.{full-spanned}
 use Rattle.judging.proofs.VerdictLaws.{
   shared-above,
   shared-within,
@@ -29,18 +30,21 @@ use Rattle.judging.proofs.VerdictLaws.{
 use Rattle.judging.proofs.judge.outcome.Statement.{statement}
 use Rattle.judging.proofs.judge.outcome.Tie as tie
 
--- the columns that are lent
+-- the columns that are lent, and those of them that the sums are lent
 abbrev given : tie.Start → Columns
-given s = columns (s .args .queues .now) (s .args .periods .now) (s .args .loads .now)
+given s = withSpans (columns (s .args .queues .now) (s .args .periods .now) (s .args .loads .now)) (s .args .spans .now)
+
+abbrev summed : tie.Start → Columns
+summed s = columns (given s .queues) (given s .periods) (given s .loads)
 
 unnamed-requires : tie.Need-unnamed-requires
 unnamed-requires c κs = search needs
 
 returns : tie.Need-returns
-returns c = c .unnamed .ensures ∙ outcome-7 (given (c .before .before .before .before .before)) (eq-eqb _ _ (c .before .if1 .taken))
+returns c = c .unnamed .ensures ∙ outcome-7 (given (c .before .before .before .before .before .before)) (eq-eqb _ _ (c .before .if1 .taken))
 
 shared-period-requires : tie.Need-shared-period-requires
-shared-period-requires c κs = let r = c .before .before .before .before .pre in (r .periodsLength, r .periods)
+shared-period-requires c κs = let r = c .before .before .before .before .before .pre .0 in (r .periodsLength, r .periods)
 
 enum-known-shared : tie.Need-enum-known-shared
 enum-known-shared c = search needs
@@ -53,7 +57,7 @@ enum-known-shared-2 c = search needs
 
 module _ (c : tie.After-shared2) where
   abbrev s : tie.Start
-  s = c .before .before .before .before .before .before .before
+  s = c .before .before .before .before .before .before .before .before
 
   -- past 7 and 10, there is a task, and the shared period is the least common multiple
   some : eqb (length (given s .queues)) 0 ≡ false
@@ -61,14 +65,20 @@ module _ (c : tie.After-shared2) where
 
   held : (firstLong (given s) ≡ Nothing) × (c .shared2 .given .0 .0 ≡ sharedPeriod (given s) (length (given s .queues)))
   held =
-      shared-within (given s .queues) (given s .periods) (given s .loads) (c .shared2 .given .0 .0)
+      shared-within (given s) (c .shared2 .given .0 .0)
       (sym (c .shared2 .given .1) ∙ c .before .before .shared-period .ensures)
 
-  common : (last : ℕ) → last ≤ 2 → Common (given s) last (c .shared2 .given .0 .0)
-  common last l = subst (λ (z : ℕ). Common (given s) last z) (sym (held .1)) (shared-common (given s) last l (s .pre) (held .0))
+  common : (last : ℕ) → last ≤ 2 → Common (summed s) last (c .shared2 .given .0 .0)
+  common last l =
+      let h = shared-within (summed s) (c .shared2 .given .0 .0) (sym (c .shared2 .given .1) ∙ c .before .before .shared-period .ensures) in
+      subst (λ (z : ℕ). Common (summed s) last z) (sym (h .1)) (shared-common (summed s) last l (s .pre .0) (h .0))
+
+  -- what the sums answer
+  full : (last : ℕ) {r v : Bool} → r ≡ overFull (summed s) last → r ≡ v → overFull (given s) last ≡ v
+  full last e f = sym (full-spanned (given s) last) ∙ (sym e ∙ f)
 
 over-full-requires : tie.Need-over-full-requires
-over-full-requires c κs = (s (c .before) .pre, common (c .before) 1 (omega arith))
+over-full-requires c κs = (s (c .before) .pre .0, common (c .before) 1 (omega arith))
 
 unnamed-requires-2 : tie.Need-unnamed-requires-2
 unnamed-requires-2 c κs = search needs
@@ -76,10 +86,10 @@ unnamed-requires-2 c κs = search needs
 returns-2 : tie.Need-returns-2
 returns-2 c =
     let h = c .before .before .before .before in
-    c .unnamed2 .ensures ∙ outcome-11 (given (s h)) (some h) (held h .0) (sym (c .before .before .over-full .ensures) ∙ c .before .if2 .taken)
+    c .unnamed2 .ensures ∙ outcome-11 (given (s h)) (some h) (held h .0) (full h 1 (c .before .before .over-full .ensures) (c .before .if2 .taken))
 
 over-full-requires-2 : tie.Need-over-full-requires-2
-over-full-requires-2 c κs = let h = c .before .before .before in (s h .pre, common h 2 (omega arith))
+over-full-requires-2 c κs = let h = c .before .before .before in (s h .pre .0, common h 2 (omega arith))
 
 unnamed-requires-3 : tie.Need-unnamed-requires-3
 unnamed-requires-3 c κs = search needs
@@ -88,8 +98,8 @@ returns-3 : tie.Need-returns-3
 returns-3 c =
     let h = c .before .before .before .before .before .before in
     c .unnamed3 .ensures
-    ∙ outcome-12 (given (s h)) (some h) (held h .0) (sym (c .before .before .before .before .over-full .ensures) ∙ c .before .before .before .if2 .left)
-    (sym (c .before .before .over-full2 .ensures) ∙ c .before .if3 .taken)
+    ∙ outcome-12 (given (s h)) (some h) (held h .0) (full h 1 (c .before .before .before .before .over-full .ensures) (c .before .before .before .if2 .left))
+    (full h 2 (c .before .before .over-full2 .ensures) (c .before .if3 .taken))
 
 first-late-requires : tie.Need-first-late-requires
 first-late-requires c κs = search needs
@@ -106,10 +116,10 @@ module _ (c : tie.Else3) where
 
   -- past 11 and 12, nothing is over full
   dp1 : overFull (given (s h)) 1 ≡ false
-  dp1 = sym (c .before .before .before .over-full .ensures) ∙ c .before .before .if2 .left
+  dp1 = full h 1 (c .before .before .before .over-full .ensures) (c .before .before .if2 .left)
 
   dp : overFull (given (s h)) 2 ≡ false
-  dp = sym (c .before .over-full2 .ensures) ∙ c .if3 .left
+  dp = full h 2 (c .before .over-full2 .ensures) (c .if3 .left)
 
 returns-4 : tie.Need-returns-4
 returns-4 c =
@@ -138,10 +148,10 @@ unnamed-requires-4 c κs = search needs
 
 returns-5 : tie.Need-returns-5
 returns-5 c =
-    let g = given (c .before .before .before .before .before .before .before .before .before) in
+    let g = given (c .before .before .before .before .before .before .before .before .before .before) in
     c .named .ensures
     ∙ outcome-10 g (ne-eqb _ _ (c .before .before .before .before .before .if1 .left)) _
-    (shared-above (g .queues) (g .periods) (g .loads) _ (sym (c .before .before .shared .given .1) ∙ c .before .before .before .before .shared-period .ensures))
+    (shared-above g _ (sym (c .before .before .shared .given .1) ∙ c .before .before .before .before .shared-period .ensures))
 
 returns-6 : tie.Need-returns-6
 returns-6 c =
