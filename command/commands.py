@@ -17,7 +17,8 @@ For each task its number, queue (1 DP1, 2 DP2, 3 FP) and charge, and last `verdi
 refused only `image`, the number and the record's place.
 
   --explain   behind each answer plain sentences: what the number means and what it names; for a table that was loaded a row for each task with its
-              cost, charge, load and load/period, the sums of DP1, of DP1 and DP2 and of all tasks, and whose figures hold
+              period, cost, charge, load and load/period, and its deadline where a task has one of its own; the sums of DP1, of DP1 and DP2 and of all
+              tasks, and whose figures hold
   --strict    exit with 3 where an image is refused or its verdict is not 0""",
         {"--explain": None, "--strict": None},
         (1, ANY, "an image"),
@@ -56,8 +57,9 @@ loader refuses is refused, and nothing is written.
         "[--force] IMAGE OUT.svg",
         "draws a table: each task's cost and charge in its period, the sums against 1",
         """\
-A bar for each task by queue, its length the period, in it cost and charge; below, the sums of load/period of DP1, of DP1 and DP2 and of all tasks against
-1. What the verdict names is marked. Plain SVG, readable in black and white; every number in it is the image's or the proved code's, or their load/period.
+A bar for each task by queue, its length the period, in it cost and charge, and a flag at its deadline where it has one of its own; below, the sums of
+load/period of DP1, of DP1 and DP2 and of all tasks against 1. What the verdict names is marked. Plain SVG, readable in black and white; every number in it
+is the image's or the proved code's, or their load/period.
 
   --force     write over a file that is there""",
         {"--force": None},
@@ -92,6 +94,7 @@ A text table has a line for each thing, in the order of the image; '#' starts a 
 
   board 160 120 120 25 100 36 140 60 55    the nine figures; left out, the built-in ones hold
   task DP1 7 2000 1000                     queue (DP1, DP2 or FP), number, period, cost; times in ticks of 10 ns
+  task FP 9 2000 1000 deadline 1500        in FP also a deadline, from the cost to one less than the period; left out, it is the period
   semaphore 1                              number
 
   --size BYTES    fill the image with erased records up to so many bytes

@@ -30,7 +30,7 @@ def refused(table):
 def judged(table):
     named = table.task(table.judged.task)
     if named:
-        yield f"It names task {named.number}, the first in table order at which it arises: {named.queue}, period {named.period:,}, cost {named.cost:,}."
+        yield f"It names task {named.number}, the first in table order at which it arises: {', '.join(fields(named))}."
     elif table.judged.verdict:
         yield "It names no task."
     yield f"The image is loaded: {table.held()}."
@@ -38,10 +38,19 @@ def judged(table):
     if table.board:
         yield "    " + ", ".join(f"{name} {value:,}" for name, value in table.board.items())
     yield "Times are in ticks of 10 ns. Load is cost plus charge; load/period is a task's share of the processor."
+    if table.deadlines():
+        yield "A deadline counts from the release; where a task has none of its own it is the period. An FP task must have its time by then."
     yield ""
     yield from task_rows(table)
     yield ""
     yield from sum_rows(table)
+
+
+def fields(task):
+    """What the record of a task says of it."""
+    yield from (task.queue, f"period {task.period:,}", f"cost {task.cost:,}")
+    if task.deadline:
+        yield f"deadline {task.deadline:,}"
 
 
 def mark(table, marked):
@@ -49,11 +58,14 @@ def mark(table, marked):
 
 
 def task_rows(table):
-    rows = [("task", "queue", "period", "cost", "charge", "load", "load/period", "")]
+    """A row for each task; the column of deadlines is there where a task has one of its own."""
+    own = table.deadlines()
+    rows = [("task", "queue", "period", *(("deadline",) if own else ()), "cost", "charge", "load", "load/period", "")]
     for t in table.tasks:
-        ticks = (f"{value:,}" for value in (t.period, t.cost, t.charge, t.load))
+        spans = (t.period, t.deadline or t.period) if own else (t.period,)
+        ticks = (f"{value:,}" for value in (*spans, t.cost, t.charge, t.load))
         rows.append((str(t.number), t.queue, *ticks, percent(t.share), mark(table, t.number == table.judged.task)))
-    return columns(rows, right=(0, 2, 3, 4, 5, 6))
+    return columns(rows, right=(0, *range(2, len(rows[0]) - 1)))
 
 
 def sum_rows(table):

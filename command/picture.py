@@ -71,8 +71,7 @@ def bar(sheet, cost, charge, marked):
     sheet.frame(LEFT, end * ONE)
     sheet.frame(LEFT, ONE, 2.5 if marked else 1)
     if cost + charge > 1:
-        upright(sheet, sheet.y - BAR // 2, sheet.y + BAR // 2, "white", 4)
-        upright(sheet, sheet.y - BAR // 2, sheet.y + BAR // 2)
+        upright_on_white(sheet, LEFT + ONE, BAR // 2)
     if cost + charge > OVER:
         torn(sheet, LEFT + OVER * ONE)
 
@@ -83,9 +82,20 @@ def torn(sheet, x):
     sheet.path(zigzag)
 
 
-def upright(sheet, top, bottom, colour="black", thick=2):
-    """The line at 1; on black it stands on a white one."""
-    sheet.parts.append(f'<path d="M{LEFT + ONE} {top} V{bottom}" stroke="{colour}" stroke-width="{thick}"/>')
+def upright(sheet, x, top, bottom, colour="black", thick=2):
+    sheet.parts.append(f'<path d="M{place(x)} {top} V{bottom}" stroke="{colour}" stroke-width="{thick}"/>')
+
+
+def upright_on_white(sheet, x, half):
+    """A line through the middle of the present line, to be seen on black too."""
+    upright(sheet, x, sheet.y - half, sheet.y + half, "white", 4)
+    upright(sheet, x, sheet.y - half, sheet.y + half)
+
+
+def flag(sheet, x):
+    """A deadline: a line through the bar, with a small triangle on it."""
+    upright_on_white(sheet, x, BAR // 2 + 2)
+    sheet.path(f"M{place(x - 4)} {sheet.y - BAR // 2 - 5} h8 l-4 5 z", "black")
 
 
 def pointer(sheet):
@@ -107,6 +117,10 @@ def heading(sheet, name, table):
         sheet.frame(x, 24)
         sheet.text(x + 32, what)
     torn(sheet, 674)
+    if table.deadlines():
+        sheet.frame(830, 24)
+        flag(sheet, 842)
+        sheet.text(862, "deadline of its own")
     sheet.down(1.6)
 
 
@@ -139,6 +153,16 @@ def task_line(sheet, task, marked):
     bar(sheet, Fraction(task.cost, task.period), Fraction(task.charge, task.period), marked)
     for value, x in zip((f"{task.cost:,}", f"{task.charge:,}", f"{task.load:,}", percent(task.share)), RIGHT.values()):
         sheet.text(x, value, end=True, bold=marked)
+    if task.deadline:
+        deadline_line(sheet, task, marked)
+
+
+def deadline_line(sheet, task, marked):
+    """The deadline on the task's bar, and its ticks on a line below, on the side where there is more room."""
+    part = drawn(Fraction(task.deadline, task.period))
+    flag(sheet, LEFT + part * ONE)
+    sheet.down(0.8)
+    sheet.text(round(LEFT + part * ONE), f"deadline {task.deadline:,}", end=2 * part > 1, bold=marked, size=11)
 
 
 def sums(sheet, table):
@@ -153,7 +177,7 @@ def sums(sheet, table):
         sheet.text(MARGIN, name, bold=marked)
         bar(sheet, sum(Fraction(t.cost, t.period) for t in tasks), sum(Fraction(t.charge, t.period) for t in tasks), marked)
         sheet.text(WIDTH - MARGIN, against_one(share(tasks)), end=True, bold=marked)
-    upright(sheet, top, sheet.y + 12)
+    upright(sheet, LEFT + ONE, top, sheet.y + 12)
 
 
 def draw(name, table):

@@ -11,11 +11,11 @@ Answer = namedtuple("Answer", "word number place")
 
 
 class Row:
-    """A task of the table: number, queue and charge from the proved code, period and cost from the image."""
+    """A task of the table: number, queue and charge from the proved code, period, cost and deadline (None where it is the period) from the image."""
 
     def __init__(self, proved, values):
         self.number, self.queue, self.charge = proved.number, QUEUES[proved.queue], proved.charge
-        self.period, self.cost = values["period"], values["cost"]
+        self.period, self.cost, self.deadline = values["period"], values["cost"], values.get("deadline")
         self.load = self.cost + self.charge
         self.share = Fraction(self.load, self.period)
 
@@ -38,6 +38,10 @@ class Table:
     def held(self):
         parts = (len(self.tasks), "task"), (len(self.semaphores), "semaphore"), (self.erased, "erased record")
         return ", ".join(counted(n, what) for n, what in parts)
+
+    def deadlines(self):
+        """Whether a task has a deadline of its own."""
+        return any(t.deadline for t in self.tasks)
 
     def sums(self):
         """The sums of load/period: a name, the tasks, and whether the verdict is that their sum is over full."""

@@ -1,18 +1,20 @@
 """Text tables: `make` turns one into an image, `show` an image into one. What is said of a line helps to write it; what counts is what the proved
 code says of the image."""
+from itertools import zip_longest
+
 from command import files, tables
 from command.output import Trouble, say
-from command.records import KINDS, MOST, MOST_SEMAPHORES, MOST_TASKS, QUEUES, RECORD, decode, encode, records
+from command.records import KINDS, MOST, MOST_SEMAPHORES, MOST_TASKS, QUEUES, RECORD, decode, encode, limits, records
 
 CODES = {name: code for code, name in QUEUES.items()}
 
 
-def whole(word, what, least, most):
+def whole(word, what, least, most, said=None):
     if not word.isascii() or not word.isdigit():
         raise Trouble(f"{what} '{word}' is not a whole number")
     value = int(word) if len(word) <= 20 else most + 1
     if not least <= value <= most:
-        raise Trouble(f"{what} {word} is not from {least:,} to {most:,}")
+        raise Trouble(f"{what} {word} is not from {least:,} to {most:,}" + (f", {said}" if said else ""))
     return value
 
 
@@ -29,9 +31,22 @@ def read_fields(kind, words):
         if field.name == "queue":
             values["queue"] = one_of(word, CODES, "queue ")
         else:
-            most = values.get(field.most, field.most)  # a number, or the name of an earlier field
-            values[field.name] = whole(word, "figure" if kind.name == "board" else field.name, field.least, most)
+            values[field.name] = whole(word, "figure" if kind.name == "board" else field.name, *limits(field, values))
     return values
+
+
+def read_optional(field, word, values):
+    """A field that not every record of its kind has; `values` are the fields before it."""
+    if field.name in values:
+        raise Trouble(f"{field.name} is said twice")
+    if word is None:
+        raise Trouble(f"{field.name} wants a number behind it")
+    if values["queue"] not in field.queues:
+        raise Trouble(f"a {field.name} is for {' and '.join(QUEUES[q] for q in field.queues)} tasks, not for {QUEUES[values['queue']]}")
+    least, most = limits(field, values)
+    if least > most:
+        raise Trouble(f"there is no room for a {field.name}: it would be from {least:,} to {most:,}, {field.said}")
+    return whole(word, field.name, least, most, field.said)
 
 
 def board_fits(board, seen):
@@ -63,7 +78,7 @@ def semaphore_fits(semaphore, seen):
 
 LINES = {
     "board": (board_fits, "a board has nine figures, not {}"),
-    "task": (task_fits, "a task has a queue, a number, a period and a cost"),
+    "task": (task_fits, "a task has a queue, a number, a period and a cost, and may have 'deadline' and a number behind them"),
     "semaphore": (semaphore_fits, "a semaphore has a number and nothing more"),
 }
 
@@ -72,9 +87,12 @@ def record_of(words, seen):
     """The record of a line; `seen` holds those before it."""
     name, words = words[0], words[1:]
     (fits, shape), kind = one_of(name, LINES), KINDS[name]
-    if len(words) != len(kind.fields):
+    more, optional = words[len(kind.fields) :], {field.name: field for field in kind.optional}
+    if len(words) < len(kind.fields) or any(word not in optional for word in more[::2]):
         raise Trouble(shape.format(len(words)))
     values = read_fields(kind, words)
+    for word, number in zip_longest(more[::2], more[1::2]):
+        values[word] = read_optional(optional[word], number, values)
     fits(values, seen)
     seen[name].append(values)
     return encode(kind, values)
@@ -105,5 +123,11 @@ def show(found, words):
     for record in records(tables.accepted(words[0]).image):
         kind, values = decode(record)
         if kind:
-            say(" ".join([kind] + [QUEUES[v] if name == "queue" else str(v) for name, v in values.items()]))
+            say(line_of(KINDS[kind], values))
     return 0
+
+
+def line_of(kind, values):
+    """A record as a line of a text table."""
+    words = [kind.name] + [QUEUES[values["queue"]] if f.name == "queue" else str(values[f.name]) for f in kind.fields]
+    return " ".join(words + [f"{f.name} {values[f.name]}" for f in kind.optional if f.name in values])

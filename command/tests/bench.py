@@ -58,6 +58,11 @@ class Bench(unittest.TestCase):
         for part in parts:
             self.assertIn(part, done.err)
 
+    def image_of_example(self, name):
+        """The image of a shipped text table."""
+        self.rack("make", os.path.join(EXAMPLES, "tables", f"{name}.txt"), f"{name}.img")
+        return self.path(f"{name}.img")
+
     def image_of(self, table, name="table.img"):
         """The image of a text table."""
         self.put("table.txt", table.encode())

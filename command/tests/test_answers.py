@@ -12,6 +12,8 @@ from command.tests.bench import EXAMPLES, EXPECTED, GOOD, REFUSED, ROOT, SHELF, 
 
 IMAGES = sorted(glob.glob(os.path.join(SHELF, "*.img")))
 ZEROS = "board 0 0 0 0 0 0 0 0 0\n"
+# a task that fits its deadline to the tick: its own cost behind that of the other
+GUARD = "task FP 7 2000 1000 deadline 1500\ntask FP 9 3000 100 deadline 1100\n"
 
 
 def stored(name):
@@ -105,6 +107,18 @@ class Explain(Bench):
     def test_a_task_is_named_and_marked(self):
         self.assertEqual(self.explained(os.path.join(SHELF, "stale-board-6.img")), stored("stale-board-6.txt"))
 
+    def test_a_deadline(self):
+        self.assertEqual(self.explained(self.image_of_example("pulse-guard-late")), stored("pulse-guard-late.txt"))
+        self.assertNotIn("deadline", self.explained(self.image_of_example("pulse-guard")))
+
+    def test_a_deadline_that_is_refused(self):
+        """At the period, where it would be 0."""
+        image = bytearray(contents(self.image_of(ZEROS + GUARD)))
+        image[64 + 12 : 64 + 16] = (3000).to_bytes(4, "little")
+        out = self.explained(self.put("refused.img", image))
+        self.assertTrue(out.startswith("image 4 2\n"), out)
+        self.assertIn(": a task record: queue 3 (FP), number 9, period 3,000, cost 100, deadline 3,000.\n", out)
+
 
 class Inventory(Bench):
     def test_a_folder(self):
@@ -145,6 +159,35 @@ class Inventory(Bench):
         self.assertIn("passed over, as no file ending in .img or .bin: one/notes, two/notes\n", out)
 
 
+class Deadlines(Bench):
+    def test_text_and_image(self):
+        """The field stands in bytes 12 to 15, and comes back as text and as bytes; where it is left out they are zero."""
+        for text, fields in ((GUARD, (1500, 1100)), (GUARD.replace(" deadline 1500", ""), (0, 1100))):
+            image = contents(self.image_of(text, "guard.img"))
+            self.assertEqual([int.from_bytes(image[at + 12 : at + 16], "little") for at in (0, 32)], list(fields))
+            self.assertEqual(self.rack("show", "guard.img").out, text)
+            self.rack("clean", "--force", "guard.img", "new.img")
+            self.assertEqual(contents(self.path("new.img")), image)
+
+    def test_words_anyhow_apart(self):
+        self.assertEqual(contents(self.image_of(GUARD.replace(" ", " \t ").replace("\n", " # and why\n"))), contents(self.image_of(GUARD)))
+
+    def test_verdicts(self):
+        for text, verdict in ((GUARD, "0 0"), (GUARD.replace("1100", "1099"), "14 9"), (GUARD.replace("1500", "1000"), "0 0")):
+            image = self.image_of(ZEROS + text)
+            self.assertEqual(self.rack("check", image).out, f"task 7 3 0\ntask 9 3 0\nverdict {verdict}\n")
+            number, task = verdict.split()
+            said = json.loads(self.rack("inventory", "--json", image).out.splitlines()[0])
+            self.assertEqual((said["number"], said["task"]), (int(number), int(task)))
+
+    def test_dispatch_stays_by_position(self):
+        """The later deadline runs, as it stands first; a standing in FP shows 0."""
+        image = self.image_of(ZEROS + GUARD)
+        self.put("script.txt", b"release 9 0\nrelease 7 0\n")
+        last = self.rack("play", "--standing", "9", image, "script.txt").out.splitlines()[-1]
+        self.assertEqual(last, "release 7 0  0 done  task 7  FP, deadline 0, position 1")
+
+
 class Clean(Bench):
     def test_what_loads_comes_back(self):
         self.put("table.txt", b"task DP1 7 2000 1000\nsemaphore 1\n")
@@ -173,9 +216,11 @@ class Picture(Bench):
     def test_each_number_is_in_it(self):
         for table in glob.glob(os.path.join(EXAMPLES, "tables", "*.txt")):
             self.rack("make", "--force", table, "table.img")
-            words = self.drawn("table.img")
-            for line in self.rack("check", "--explain", "table.img").out.split("load/period\n")[1].split("\n\n")[0].splitlines():
-                row = line.replace(" %", "_%").split()[:7]
+            words = {word for text in self.drawn("table.img") for word in (text, text.replace("deadline ", ""))}
+            head, rows = self.rack("check", "--explain", "table.img").out.split("load/period\n")[:2]
+            columns = len(head.splitlines()[-1].split()) + 1
+            for line in rows.split("\n\n")[0].splitlines():
+                row = line.replace(" %", "_%").split()[:columns]
                 for value in row[:1] + row[2:]:
                     self.assertIn(value.replace("_%", " %"), words)
 
@@ -185,6 +230,13 @@ class Picture(Bench):
         bold = re.findall(r'font-weight="bold">([^<]*)<', contents(self.path("out.svg")).decode())
         self.assertIn("3", bold)
         self.assertNotIn("2", bold)
+
+    def test_deadlines(self):
+        """A flag at a quarter of the bar and its ticks below it, and what a flag is; without a deadline none of it."""
+        words = self.drawn(self.image_of_example("pulse-guard-late"))
+        self.assertEqual([word for word in words if "deadline" in word], ["deadline of its own", "deadline 250,000"])
+        self.assertIn('<path d="M306 ', contents(self.path("out.svg")).decode())
+        self.assertNotIn("deadline", " ".join(self.drawn(self.image_of_example("pulse-guard"))))
 
     def test_names_that_are_markup(self):
         self.put("<&>.img", contents(GOOD))

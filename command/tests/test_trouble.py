@@ -107,10 +107,16 @@ class Reading(Bench):
             for name, why in (("bytes", "not a text file"), ("long", "longer than")):
                 self.assert_told(self.rack(*(w.format(name) for w in words), status=1), name, why)
 
-    def test_lines(self):
-        """What is wrong with a line is told by its number, and nothing is written."""
-        table, script = "task DP1 7 2000 1000\n", "release 7 0\n"
-        for line, why in (
+    def each_line(self, words, first, lines):
+        """What is wrong with a second line is told by its number, and nothing is written."""
+        for line, why in lines:
+            with self.subTest(line):
+                self.put("bad.txt", f"{first}\n{line}\n".encode())
+                self.assert_told(self.rack(*words, status=1), "bad.txt, line 2: ", why)
+                self.assertFalse(os.path.exists(self.path("new")))
+
+    def test_lines_of_a_table(self):
+        lines = (
             ("task DP4 9 2000 1000", "queue 'DP4' is none of DP1, DP2, FP"),
             ("task DP1 9 2000 2001", "cost 2001 is not from 1 to 2,000"),
             ("task DP1 9 999 1", "period 999 is not from 1,000 to 100,000,000"),
@@ -122,19 +128,44 @@ class Reading(Bench):
             ("board 1 2 3", "a board has nine figures, not 3"),
             ("board 1 2 3 4 5 6 7 8 9", "there is at most one board, and it comes first"),
             ("lock 1", "'lock' is none of board, task, semaphore"),
-        ):
-            self.put("bad.txt", (table + line).encode())
-            self.assert_told(self.rack("make", "bad.txt", "new", status=1), "bad.txt, line 2: ", why)
-        for line, why in (
+        )
+        self.each_line(("make", "bad.txt", "new"), "task DP1 7 2000 1000", lines)
+
+    def test_deadlines_of_a_table(self):
+        said = "is not from 1,000 to 1,999, the cost to one less than the period"
+        shape = "a task has a queue, a number, a period and a cost, and may have 'deadline' and a number behind them"
+        lines = (
+            ("task DP1 9 2000 1000 deadline 1500", "a deadline is for FP tasks, not for DP1"),
+            ("task DP2 9 2000 1000 deadline 1500", "a deadline is for FP tasks, not for DP2"),
+            ("task FP 9 2000 1000 deadline 2000", f"deadline 2000 {said}"),
+            ("task FP 9 2000 1000 deadline 2001", f"deadline 2001 {said}"),
+            ("task FP 9 2000 1000 deadline 999", f"deadline 999 {said}"),
+            ("task FP 9 2000 1000 deadline 0", f"deadline 0 {said}"),
+            ("task FP 9 2000 1000 deadline " + "9" * 5000, said),
+            ("task FP 9 2000 2000 deadline 2000", "there is no room for a deadline: it would be from 2,000 to 1,999"),
+            ("task FP 9 2000 1000 deadline soon", "deadline 'soon' is not a whole number"),
+            ("task FP 9 2000 1000 deadline -1", "deadline '-1' is not a whole number"),
+            ("task FP 9 2000 1000 deadline", "deadline wants a number behind it"),
+            ("task FP 9 2000 1000 deadline 1500 deadline 1600", "deadline is said twice"),
+            ("task FP 9 2000 1000 deadline 1500 1600", shape),
+            ("task FP 9 2000 1000 1500", shape),
+            ("task FP 9 2000 deadline 1500", shape),
+            ("semaphore 1 deadline 1500", "a semaphore has a number and nothing more"),
+        )
+        self.each_line(("make", "bad.txt", "new"), "task DP1 7 2000 1000", lines)
+
+    def test_lines_of_a_script(self):
+        lines = (
             ("realease 7 0", "'realease' is none of release, signal"),
             ("release 7", "release takes a task and a time"),
             ("complete 7", "complete takes nothing more"),
             ("acquire 70000", "semaphore 70000 is not from 0 to 65,535"),
             ("release 7 -1", "time '-1' is not a whole number"),
             ("release 7 " + "9" * 5000, "is not from 0 to 18,446,744,073,709,551,615"),
-        ):
-            self.put("bad.txt", (script + line).encode())
-            self.assert_told(self.rack("play", GOOD, "bad.txt", status=1), "bad.txt, line 2: ", why)
+        )
+        self.each_line(("play", GOOD, "bad.txt"), "release 7 0", lines)
+
+    def test_texts_without_a_line(self):
         self.put("bad.txt", b"# nothing\n")
         self.assert_told(self.rack("play", GOOD, "bad.txt", status=1), "bad.txt: there is no call")
         self.assert_told(self.rack("make", "bad.txt", "new", status=1), "bad.txt: there is no task")

@@ -93,7 +93,7 @@ impl State {
             return 22;
         }
         task.status = Status::Ready;
-        task.deadline = time + u64::from(task.period);
+        task.deadline = time + u64::from(task.span);
         self.last = time;
         0
     }

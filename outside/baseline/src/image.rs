@@ -13,7 +13,11 @@ fn u32_at(record: &[u8], at: usize) -> u32 {
 fn add_task(state: &mut State, record: &[u8]) -> Result<(), u8> {
     let (queue, number, period, cost) = (record[1], u16_at(record, 2), u32_at(record, 4), u32_at(record, 8));
     let in_range = (1..=3).contains(&queue) && number > 0 && (1_000..=100_000_000).contains(&period) && (1..=period).contains(&cost);
-    if !in_range || record[12..].iter().any(|b| *b != 0) {
+    if !in_range || record[16..].iter().any(|b| *b != 0) {
+        return Err(4);
+    }
+    let deadline = u32_at(record, 12);
+    if deadline != 0 && (queue != 3 || deadline < cost || deadline >= period) {
         return Err(4);
     }
     if state.m > 0 {
@@ -30,7 +34,8 @@ fn add_task(state: &mut State, record: &[u8]) -> Result<(), u8> {
     if state.n == 64 {
         return Err(6);
     }
-    state.tasks[state.n] = Task { deadline: 0, period, cost, number, queue, status: Status::Idle };
+    let span = if deadline == 0 { period } else { deadline };
+    state.tasks[state.n] = Task { deadline: 0, period, cost, span, number, queue, status: Status::Idle };
     state.n += 1;
     Ok(())
 }
@@ -124,6 +129,9 @@ pub fn write(state: &State, buffer: &mut [u8]) -> u8 {
         record[2..4].copy_from_slice(&task.number.to_le_bytes());
         record[4..8].copy_from_slice(&task.period.to_le_bytes());
         record[8..12].copy_from_slice(&task.cost.to_le_bytes());
+        if task.span < task.period {
+            record[12..16].copy_from_slice(&task.span.to_le_bytes());
+        }
     }
     for (sem, record) in state.sems().iter().zip(&mut records) {
         record[0] = 3;

@@ -67,7 +67,7 @@ pub fn judge(state: &State) -> (u8, u16) {
     }
     for i in r..tasks.len() {
         let demand = |t: u64| (0..=i).map(|j| loads[j] * t.div_ceil(periods[j])).sum::<u64>();
-        if !some_time(periods[i], &periods[..=i], demand) {
+        if !some_time(u64::from(tasks[i].span), &periods[..=i], demand) {
             return (14, tasks[i].number);
         }
     }

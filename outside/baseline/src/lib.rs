@@ -20,6 +20,8 @@ pub struct Task {
     pub deadline: u64,
     pub period: u32,
     pub cost: u32,
+    /// From a release to its deadline: what the record has, which is below the period, or the period where it has 0.
+    pub span: u32,
     pub number: u16,
     pub queue: u8,
     pub status: Status,
@@ -50,7 +52,7 @@ pub struct State {
 impl State {
     pub fn empty() -> Self {
         State {
-            tasks: [Task { deadline: 0, period: 0, cost: 0, number: 0, queue: 0, status: Status::Idle }; 64],
+            tasks: [Task { deadline: 0, period: 0, cost: 0, span: 0, number: 0, queue: 0, status: Status::Idle }; 64],
             sems: [Sem { number: 0, holder: None }; 16],
             n: 0,
             m: 0,

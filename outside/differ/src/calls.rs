@@ -1,13 +1,15 @@
-//! Sequences of calls. The model steers them so that most are accepted and chains of waits form; the subjects are held to its answers.
+//! Sequences of calls. The model steers them so that most are accepted and chains of waits form; the subjects are held to its answers. What a release
+//! stores as an FP task's deadline shows at no boundary, since a standing in FP has 0; there the baseline's own state is held to the model.
 
 use crate::expected::{call_of, step};
-use crate::images::Seen;
+use crate::images::{differs, hex, shorter};
+use crate::kinds::{note, Seen};
 use crate::rng::Rng;
 use crate::subjects::SUBJECTS;
-use model::dispatch::{Doing, Model};
+use model::dispatch::{Call, Doing, Model};
 use model::image::{records, Table, Task};
 
-/// A table for dispatch: what it costs does not matter here.
+/// A table for dispatch: what it costs does not matter here. Every second has deadlines of FP tasks' own.
 pub fn table(rng: &mut Rng) -> Table {
     let n = if rng.one_in(50) { rng.from_to(11, 64) } else { rng.from_to(1, 8) } as usize;
     let m = if rng.one_in(20) { 16 } else { rng.from_to(0, 7) } as usize;
@@ -22,9 +24,11 @@ pub fn table(rng: &mut Rng) -> Table {
     keys.sort();
     let q = rng.below(n + 1);
     let r = rng.from_to(q as u64, n as u64) as usize;
+    let short = rng.one_in(2);
     let tasks = keys.into_iter().enumerate().map(|(i, (period, number))| {
         let queue = if i < q { 1 } else if i < r { 2 } else { 3 };
-        Task { queue, number, period, cost: 1 }
+        let deadline = if queue == 3 && short && rng.one_in(2) { shorter(rng, 1, period) } else { 0 };
+        Task { queue, number, period, cost: 1, deadline }
     });
     let sems = (1..=m as u16).map(|i| i * 7).collect();
     Table { board: None, tasks: tasks.collect(), sems }
@@ -116,12 +120,36 @@ fn note_waits(model: &Model, seen: &mut Seen) {
     let n = model.table.tasks.len();
     let crowd = (0..model.table.sems.len()).map(|k| (0..n).filter(|i| model.doing(*i) == Doing::Waits(k)).count()).max();
     let chain = model.longest_chain();
-    *seen.entry(format!("chain of {}", chain.min(4))).or_insert(0) += 1;
-    *seen.entry(format!("waiters {}", crowd.unwrap_or(0).min(4))).or_insert(0) += 1;
+    note(seen, format!("chain of {}", chain.min(4)));
+    note(seen, format!("waiters {}", crowd.unwrap_or(0).min(4)));
 }
 
-/// One sequence: a table, its image, its script, and what the model answers to each record.
-pub fn sequence(rng: &mut Rng, seen: &mut Seen) -> (Vec<u8>, Vec<u8>, Vec<u8>) {
+/// A call and its answer, and whether a task was released that has a deadline of its own.
+fn note_call(model: &Model, seen: &mut Seen, call: Call, answer: u8) {
+    let name = match call {
+        Call::Release { .. } => "release",
+        Call::Signal { .. } => "signal",
+        Call::Withdraw { .. } => "withdraw",
+        Call::Acquire { .. } => "acquire",
+        Call::Give { .. } => "give",
+        Call::Complete => "complete",
+        Call::Block => "block",
+    };
+    note(seen, format!("{name} {answer:2}"));
+    if matches!(call, Call::Release { task, .. } if model.table.tasks.iter().any(|t| t.number == task && t.deadline > 0)) {
+        note(seen, format!("release {answer:2} with a deadline"));
+    }
+}
+
+/// A sequence: a table's image, a script, what the model answers to each of its records, and every task's deadline behind it.
+pub struct Case {
+    image: Vec<u8>,
+    script: Vec<u8>,
+    wanted: Vec<u8>,
+    deadlines: Vec<u64>,
+}
+
+pub fn sequence(rng: &mut Rng, seen: &mut Seen) -> Case {
     let table = table(rng);
     let image = records(&table);
     let calls = rng.from_to(1, 45);
@@ -133,9 +161,8 @@ pub fn sequence(rng: &mut Rng, seen: &mut Seen) -> (Vec<u8>, Vec<u8>, Vec<u8>) {
         if record[0] == 1 && part[0] == 0 {
             run.time = u64::from_le_bytes(record[8..16].try_into().unwrap());
         }
-        let name = ["?", "release", "signal", "withdraw", "acquire", "give", "complete", "block"];
-        if call_of(&record).is_some() {
-            *seen.entry(format!("{} {:2}", name[usize::from(record[0])], part[0])).or_insert(0) += 1;
+        if let Some(call) = call_of(&record) {
+            note_call(&run.model, seen, call, part[0]);
         }
         script.extend(record);
         wanted.extend(part);
@@ -148,24 +175,35 @@ pub fn sequence(rng: &mut Rng, seen: &mut Seen) -> (Vec<u8>, Vec<u8>, Vec<u8>) {
         wanted.extend(step(&mut run.model, &record));
         script.extend(record);
     }
-    (image, script, wanted)
+    let deadlines = (0..run.model.table.tasks.len()).map(|i| run.model.deadline(i)).collect();
+    Case { image, script, wanted, deadlines }
 }
 
-pub const MUST_SEE: [&str; 25] = [
+/// The deadlines that the baseline's state holds behind a script.
+fn stored(image: &[u8], script: &[u8]) -> Vec<u64> {
+    let mut state = baseline::State::empty();
+    baseline::image::load(image, &mut state);
+    for record in script.chunks_exact(16) {
+        baseline::boundary::step(&mut state, record);
+    }
+    state.tasks().iter().map(|task| task.deadline).collect()
+}
+
+pub const MUST_SEE: [&str; 28] = [
     "release  0", "release 20", "release 22", "release 23", "signal  0", "signal 20", "signal 24", "withdraw  0", "withdraw 20", "withdraw 25",
     "acquire  0", "acquire 21", "acquire 26", "acquire 28", "acquire 90", "give  0", "give 21", "give 26", "give 29", "complete  0",
-    "complete 26", "complete 27", "block  0", "block 26", "chain of 3",
+    "complete 26", "complete 27", "block  0", "block 26", "chain of 3", "release  0 with a deadline", "release 22 with a deadline",
+    "release 23 with a deadline",
 ];
-
-fn hex(bytes: &[u8]) -> String {
-    bytes.iter().map(|b| format!("{b:02x}")).collect()
-}
 
 pub fn run(count: u64, seed: u64) -> Result<Seen, String> {
     let mut rng = Rng::new(seed);
     let mut seen = Seen::new();
     for _ in 0..count {
-        let (image, mut script, mut wanted) = sequence(&mut rng, &mut seen);
+        let Case { image, mut script, mut wanted, deadlines } = sequence(&mut rng, &mut seen);
+        if stored(&image, &script) != deadlines {
+            return Err(differs("baseline", "a stored deadline", &image) + " script " + &hex(&script));
+        }
         let mut answer = (script.len() / 16) as u64;
         // more room than is needed is left as it was; too little, or a cut script, is refused
         let extra = rng.pick(&[0, 0, 1, 40]);
@@ -184,7 +222,7 @@ pub fn run(count: u64, seed: u64) -> Result<Seen, String> {
         for subject in &SUBJECTS {
             let mut got = out.clone();
             if (subject.play)(&image, &script, &mut got) != answer || got != wanted {
-                return Err(format!("{}: playing differs from the model on image {} script {}", subject.name, hex(&image), hex(&script)));
+                return Err(differs(subject.name, "playing", &image) + " script " + &hex(&script));
             }
         }
     }

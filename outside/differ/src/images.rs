@@ -1,10 +1,10 @@
 //! Images: valid ones, damaged ones, and what the three sides make of them.
 
 use crate::expected::{judged, rewritten};
+use crate::kinds::{note, note_judged, Seen};
 use crate::rng::Rng;
 use crate::subjects::SUBJECTS;
-use model::image::{read, records, refusals, Table, Task};
-use std::collections::BTreeMap;
+use model::image::{read, records, Table, Task};
 
 const NICE: [u64; 12] = [1_000, 1_200, 1_500, 2_000, 2_400, 3_000, 4_000, 5_000, 6_000, 10_000, 12_000, 30_000];
 
@@ -28,7 +28,18 @@ fn board(rng: &mut Rng) -> Option<[u64; 9]> {
     }
 }
 
-/// A well-formed table. Few tasks as a rule, now and then as many as there can be.
+/// A deadline of an FP task's own: the cost, one less than the period, or between. None where the cost leaves no room for one.
+pub fn shorter(rng: &mut Rng, cost: u64, period: u64) -> u64 {
+    match rng.below(4) {
+        _ if cost == period => 0,
+        0 => cost,
+        1 => period - 1,
+        2 => rng.from_to(cost, (period - 1).min(4 * cost)),
+        _ => rng.from_to(cost, period - 1),
+    }
+}
+
+/// A well-formed table. Few tasks as a rule, now and then as many as there can be; two in three have no deadline but the periods.
 pub fn table(rng: &mut Rng) -> Table {
     let n = match rng.below(40) {
         0 => 64,
@@ -53,11 +64,13 @@ pub fn table(rng: &mut Rng) -> Table {
     let q = rng.below(n + 1);
     let r = rng.from_to(q as u64, n as u64) as usize;
     let share = rng.pick(&[1, 2, n as u64, n as u64, 2 * n as u64, 10 * n as u64]);
+    let short = rng.one_in(3);
     let tasks = keys.into_iter().enumerate().map(|(i, (period, number))| {
         let queue = if i < q { 1 } else if i < r { 2 } else { 3 };
         let most = (period / share).max(1);
         let cost = if rng.one_in(4) { most } else { rng.from_to(1, most) };
-        Task { queue, number, period, cost }
+        let deadline = if queue == 3 && short && !rng.one_in(3) { shorter(rng, cost, period) } else { 0 };
+        Task { queue, number, period, cost, deadline }
     });
     let tasks = tasks.collect();
     let mut sems: Vec<u16> = (0..m).map(|_| rng.from_to(1, 300) as u16).collect();
@@ -76,57 +89,76 @@ fn damage(rng: &mut Rng, image: &mut Vec<u8>) {
         image.extend([0; 32]);
         return;
     };
-    match rng.below(18) {
-        0 => image[at + rng.below(32)] ^= 1 << rng.below(8),
-        1 => image[at + rng.below(32)] = rng.pick(&[0, 1, 2, 3, 4, 255, 254]),
-        2 => image[at] = rng.pick(&[0, 4, 5, 254, 255]),
-        3 => image[at..at + 32].fill(255),
-        4 => {
-            let other = 32 * rng.below(image.len() / 32);
+    let other = 32 * rng.below(image.len() / 32);
+    match rng.below(21) {
+        0 => image[at..at + 32].fill(255),
+        1 => {
             for i in 0..32 {
                 image.swap(at + i, other + i);
             }
         }
-        5 => {
+        2 => {
             let copy = image[at..at + 32].to_vec();
-            let other = 32 * rng.below(image.len() / 32 + 1);
-            image.splice(other..other, copy);
+            let to = 32 * rng.below(image.len() / 32 + 1);
+            image.splice(to..to, copy);
+        }
+        // the number of one task for another
+        3 => image.copy_within(other + 2..other + 4, at + 2),
+        4 => image.extend([255; 32].repeat(rng.from_to(1, 3) as usize)),
+        5 => {
+            image.extend([255; 32]);
+            image.extend_from_within(at..at + 32);
         }
         6 => {
-            // the number of one task for another
-            let other = 32 * rng.below(image.len() / 32);
-            let (low, high) = (image[other + 2], image[other + 3]);
-            image[at + 2] = low;
-            image[at + 3] = high;
-        }
-        7 => image[at + 1] = rng.from_to(0, 4) as u8,
-        8 => image[at + 4..at + 8].copy_from_slice(&rng.pick(&[0u32, 999, 1_000, 100_000_000, 100_000_001, u32::MAX]).to_le_bytes()),
-        9 => {
-            let period: [u8; 4] = image[at + 4..at + 8].try_into().unwrap();
-            let cost = rng.pick(&[0, 1, u32::from_le_bytes(period), u32::from_le_bytes(period).wrapping_add(1)]);
-            image[at + 8..at + 12].copy_from_slice(&cost.to_le_bytes());
-        }
-        10 => image.extend([255; 32].repeat(rng.from_to(1, 3) as usize)),
-        11 => {
-            image.extend([255; 32]);
-            let copy = image[at..at + 32].to_vec();
-            image.extend(copy);
-        }
-        12 => {
             image.splice(0..0, records(&Table { board: board(rng), tasks: Vec::new(), sems: Vec::new() }));
         }
-        13 => image.truncate(rng.below(image.len() + 1)),
-        14 => {
+        7 => image.truncate(rng.below(image.len() + 1)),
+        8 => {
             let length = rng.pick(&[4_095, 4_096, 4_097, 4_128, 33, 31]);
             image.resize(length, 255);
         }
-        15 => crowd(rng, image),
-        16 => image.extend(records(&table(rng))),
-        _ => image[at + 2..at + 4].fill(0),
+        9 => crowd(rng, image),
+        10 => image.extend(records(&table(rng))),
+        11 | 12 => unfit_deadline(rng, image, at),
+        _ => damage_record(rng, &mut image[at..at + 32]),
     }
 }
 
-/// As many more tasks or semaphores as take the table past what it may have, in order as far as it was.
+fn u32_at(record: &[u8], at: usize) -> u32 {
+    u32::from_le_bytes(record[at..at + 4].try_into().unwrap())
+}
+
+/// Another byte or another field in a record.
+fn damage_record(rng: &mut Rng, record: &mut [u8]) {
+    let period = u32_at(record, 4);
+    match rng.below(8) {
+        0 => record[rng.below(32)] ^= 1 << rng.below(8),
+        1 => record[rng.below(32)] = rng.pick(&[0, 1, 2, 3, 4, 255, 254]),
+        2 => record[0] = rng.pick(&[0, 4, 5, 254, 255]),
+        3 => record[1] = rng.from_to(0, 4) as u8,
+        4 => record[2..4].fill(0),
+        5 => record[4..8].copy_from_slice(&rng.pick(&[0u32, 999, 1_000, 100_000_000, 100_000_001, u32::MAX]).to_le_bytes()),
+        6 => record[8..12].copy_from_slice(&rng.pick(&[0, 1, period, period.wrapping_add(1)]).to_le_bytes()),
+        _ => record[16 + rng.below(16)] = rng.from_to(1, 255) as u8,
+    }
+}
+
+/// A deadline at the ends of its range and beyond them, in FP or in whatever queue the record has; now and then also the number of the record before,
+/// or a queue that falls.
+fn unfit_deadline(rng: &mut Rng, image: &mut [u8], at: usize) {
+    let (period, cost) = (u32_at(image, at + 4), u32_at(image, at + 8));
+    let ends = [cost.wrapping_sub(1), cost, period.wrapping_sub(1), period, period.wrapping_add(1), u32::MAX];
+    image[at + 12..at + 16].copy_from_slice(&rng.pick(&ends).to_le_bytes());
+    match rng.below(6) {
+        0 if at > 0 => image.copy_within(at - 30..at - 28, at + 2),
+        1 => image[at + 1] = 1,
+        2 | 3 => image[at + 1] = 3,
+        _ => {}
+    }
+}
+
+/// As many more tasks or semaphores as take the table past what it may have, in order as far as it was; the last task now and then with the period
+/// as its deadline.
 fn crowd(rng: &mut Rng, image: &mut Vec<u8>) {
     let Ok(mut table) = read(image) else { return };
     if rng.one_in(2) {
@@ -135,6 +167,9 @@ fn crowd(rng: &mut Rng, image: &mut Vec<u8>) {
         for i in 0..=64 - table.tasks.len() as u64 {
             let number = if rng.one_in(60) { last.number } else { 20_000 + i as u16 };
             table.tasks.push(Task { number, period: far + i, ..last.clone() });
+        }
+        if let (Some(beyond), true) = (table.tasks.last_mut(), rng.one_in(4)) {
+            beyond.deadline = beyond.period;
         }
     } else {
         let last = u64::from(table.sems.last().copied().unwrap_or(0));
@@ -159,16 +194,12 @@ pub fn image(rng: &mut Rng) -> Vec<u8> {
     image
 }
 
-/// How often each thing was seen.
-pub type Seen = BTreeMap<String, u64>;
-
-fn note(seen: &mut Seen, what: String) {
-    *seen.entry(what).or_insert(0) += 1;
+pub fn hex(bytes: &[u8]) -> String {
+    bytes.iter().map(|b| format!("{b:02x}")).collect()
 }
 
-fn differs(name: &str, what: &str, image: &[u8]) -> String {
-    let hex: String = image.iter().map(|b| format!("{b:02x}")).collect();
-    format!("{name}: {what} differs from the model on image {hex}")
+pub fn differs(name: &str, what: &str, image: &[u8]) -> String {
+    format!("{name}: {what} differs from the model on image {}", hex(image))
 }
 
 /// Compares the subjects with the model on one image.
@@ -177,16 +208,8 @@ pub fn compare(rng: &mut Rng, image: &[u8], seen: &mut Seen) -> Result<(), Strin
     let before: Vec<u8> = (0..size).map(|_| rng.next() as u8).collect();
     let mut wanted = before.clone();
     let number = judged(image, &mut wanted);
-    if number > 0 && wanted[0] > 0 {
-        note(seen, format!("load {:2}", wanted[0]));
-        let all = refusals(image);
-        for (i, first) in all.iter().enumerate() {
-            for second in &all[i + 1..] {
-                note(seen, format!("load {first} before {second}"));
-            }
-        }
-    } else if number > 0 {
-        note(seen, format!("verdict {:2}", wanted[1]));
+    if number > 0 {
+        note_judged(seen, image, wanted[1]);
     }
     let length = match rng.below(6) {
         0 => rng.below(200),
@@ -212,11 +235,15 @@ pub fn compare(rng: &mut Rng, image: &[u8], seen: &mut Seen) -> Result<(), Strin
 }
 
 /// What a run must have seen to be worth anything.
-pub const MUST_SEE: [&str; 31] = [
+pub const MUST_SEE: [&str; 48] = [
     "load  1", "load  2", "load  3", "load  4", "load  5", "load  6", "load  7", "load  8", "verdict  0", "verdict 10", "verdict 11",
     "verdict 12", "verdict 13", "verdict 14", "rewrite  0", "rewrite  1", "rewrite  2", "rewrite  3", "rewrite  4", "rewrite  5",
     "rewrite  6", "rewrite  7", "rewrite  8", "rewrite  9", "load 3 before 2", "load 3 before 4", "load 3 before 5", "load 3 before 8",
-    "load 5 before 8", "load 5 before 6", "load 8 before 6",
+    "load 5 before 8", "load 5 before 6", "load 8 before 6", "table without a deadline", "deadline at the cost", "deadline between",
+    "deadline at period - 1", "4 by byte 16 to 31", "4 by a deadline in DP1", "4 by a deadline in DP2", "4 by a deadline below the cost",
+    "4 by a deadline at the period", "4 by a deadline above the period", "3 before 4 by a deadline", "4 by a deadline before 5",
+    "4 by a deadline before 8", "4 by a deadline before 6", "verdict  0 with a deadline", "verdict 14 with a deadline",
+    "verdict 14 by a deadline alone",
 ];
 
 /// Runs so many cases from a seed.

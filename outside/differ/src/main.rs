@@ -6,13 +6,14 @@ use std::process::exit;
 mod calls;
 mod expected;
 mod images;
+mod kinds;
 mod rng;
 mod subjects;
 mod vectors;
 
-const USE: &str = "use: differ images COUNT SEED | differ calls COUNT SEED | differ vectors FOLDER";
+const USE: &str = "use: differ images COUNT SEED | differ calls COUNT SEED | differ vectors FOLDER | differ old-vectors FOLDER";
 
-fn seeded(words: &[String], run: fn(u64, u64) -> Result<images::Seen, String>, must_see: &[&str]) -> Result<String, String> {
+fn seeded(words: &[String], run: fn(u64, u64) -> Result<kinds::Seen, String>, must_see: &[&str]) -> Result<String, String> {
     let number = |i: usize| words.get(i).and_then(|w| w.parse::<u64>().ok()).ok_or(USE.to_string());
     let (count, seed) = (number(1)?, number(2)?);
     println!("{}: {count} cases from seed {seed}", words[0]);
@@ -30,14 +31,8 @@ fn answer(words: &[String]) -> Result<String, String> {
     match words.first().map(String::as_str) {
         Some("images") => seeded(words, images::run, &images::MUST_SEE),
         Some("calls") => seeded(words, calls::run, &calls::MUST_SEE),
-        Some("vectors") => {
-            let folder = words.get(1).ok_or(USE)?;
-            let (images, calls) = vectors::run(Path::new(folder))?;
-            if images + calls == 0 {
-                return Err(format!("{folder}: no vector"));
-            }
-            Ok(format!("vectors: {images} images and {calls} calls, no difference"))
-        }
+        Some("vectors") => vectors::run(Path::new(words.get(1).ok_or(USE)?)),
+        Some("old-vectors") => vectors::run_old(Path::new(words.get(1).ok_or(USE)?)),
         _ => Err(USE.to_string()),
     }
 }

@@ -24,6 +24,11 @@ pub fn printed(judge: fn(&[u8], &mut [u8]) -> u64, image: &[u8]) -> String {
     text + &format!("verdict {} {}\n", out[1], u16_at(4))
 }
 
+/// What could not be done with a file.
+fn trouble(path: &Path) -> impl Fn(std::io::Error) -> String + '_ {
+    move |e| format!("{}: {e}", path.display())
+}
+
 fn unhex(text: &str) -> Vec<u8> {
     (0..text.len() / 2).map(|i| u8::from_str_radix(&text[2 * i..2 * i + 2], 16).unwrap()).collect()
 }
@@ -80,11 +85,15 @@ fn expand(lines: &[Line]) -> (Vec<u8>, Vec<u8>) {
     (script, wanted)
 }
 
+/// The image of a call script, which its first line has.
+fn image_line(text: &str) -> Result<Vec<u8>, String> {
+    Ok(unhex(text.lines().next().and_then(|l| l.strip_prefix("image ")).ok_or("no image line")?.trim()))
+}
+
 fn play(path: &Path) -> Result<usize, String> {
-    let text = fs::read_to_string(path).map_err(|e| format!("{}: {e}", path.display()))?;
-    let mut rows = text.lines();
-    let image = unhex(rows.next().and_then(|l| l.strip_prefix("image ")).ok_or("no image line")?.trim());
-    let lines: Option<Vec<Line>> = rows.filter(|l| !l.trim().is_empty()).map(parse).collect();
+    let text = fs::read_to_string(path).map_err(trouble(path))?;
+    let image = image_line(&text)?;
+    let lines: Option<Vec<Line>> = text.lines().skip(1).filter(|l| !l.trim().is_empty()).map(parse).collect();
     let lines = lines.ok_or_else(|| format!("{}: a line that is no call", path.display()))?;
     let mut model = Model::new(model::image::read(&image).map_err(|r| format!("{}: {r:?}", path.display()))?);
     for (i, line) in lines.iter().enumerate() {
@@ -107,8 +116,8 @@ fn play(path: &Path) -> Result<usize, String> {
 }
 
 fn judge(path: &Path) -> Result<(), String> {
-    let image = fs::read(path).map_err(|e| format!("{}: {e}", path.display()))?;
-    let wanted = fs::read_to_string(path.with_extension("out")).map_err(|e| format!("{}: {e}", path.display()))?;
+    let image = fs::read(path).map_err(trouble(path))?;
+    let wanted = fs::read_to_string(path.with_extension("out")).map_err(trouble(path))?;
     if report(&image) != wanted {
         return Err(format!("{}: the model differs", path.display()));
     }
@@ -125,23 +134,62 @@ fn judge(path: &Path) -> Result<(), String> {
     Ok(())
 }
 
-/// Runs every image and script of a folder.
-pub fn run(folder: &Path) -> Result<(usize, usize), String> {
-    let mut paths: Vec<PathBuf> = fs::read_dir(folder)
-        .map_err(|e| format!("{}: {e}", folder.display()))?
-        .filter_map(|entry| entry.ok().map(|e| e.path()))
-        .collect();
-    paths.sort();
+/// The images and scripts of a folder.
+fn cases(folder: &Path) -> Result<Vec<PathBuf>, String> {
+    let entries = fs::read_dir(folder).map_err(trouble(folder))?;
+    let paths = entries.filter_map(|entry| entry.ok().map(|e| e.path()));
+    let mut found: Vec<PathBuf> = paths.filter(|p| ends_in(p, "img") || ends_in(p, "calls")).collect();
+    found.sort();
+    Ok(found)
+}
+
+fn ends_in(path: &Path, ending: &str) -> bool {
+    path.extension().is_some_and(|e| e == ending)
+}
+
+/// Whether an image has a task record with a byte from 12 to 15 that is not zero: before request a) such a record was refused with 4.
+fn has_deadline(path: &Path) -> Result<bool, String> {
+    let bytes = fs::read(path).map_err(trouble(path))?;
+    let image = if ends_in(path, "calls") { image_line(&String::from_utf8_lossy(&bytes))? } else { bytes };
+    Ok(image.chunks_exact(32).any(|record| record[0] == 1 && record[12..16] != [0; 4]))
+}
+
+/// Runs every image and script; how many images, and how many calls.
+fn replay(paths: &[PathBuf]) -> Result<(usize, usize), String> {
     let (mut images, mut calls) = (0, 0);
     for path in paths {
-        match path.extension().and_then(|e| e.to_str()) {
-            Some("img") => {
-                judge(&path)?;
-                images += 1;
-            }
-            Some("calls") => calls += play(&path)?,
-            _ => {}
+        if ends_in(path, "calls") {
+            calls += play(path)?;
+        } else {
+            judge(path)?;
+            images += 1;
         }
     }
     Ok((images, calls))
+}
+
+/// Runs every case of a folder.
+pub fn run(folder: &Path) -> Result<String, String> {
+    let (images, calls) = replay(&cases(folder)?)?;
+    if images + calls == 0 {
+        return Err(format!("{}: no vector", folder.display()));
+    }
+    Ok(format!("vectors: {images} images and {calls} calls, no difference"))
+}
+
+/// Runs those cases of a folder from before request a) that have no task record with a deadline: what they answered then, they answer now.
+pub fn run_old(folder: &Path) -> Result<String, String> {
+    let all = cases(folder)?;
+    let mut kept = Vec::new();
+    for path in &all {
+        if !has_deadline(path)? {
+            kept.push(path.clone());
+        }
+    }
+    let (images, calls) = replay(&kept)?;
+    if images == 0 || calls == 0 {
+        return Err(format!("{}: no image or no call script without a deadline", folder.display()));
+    }
+    let left = all.len() - kept.len();
+    Ok(format!("old vectors: {images} images and {calls} calls without a deadline, no difference; {left} with one left out"))
 }

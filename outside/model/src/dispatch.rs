@@ -78,12 +78,13 @@ impl Model {
         None
     }
 
-    fn deadline(&self, i: usize) -> u64 {
+    /// The deadline of a task's newest job, 0 before its first. That of an FP task is in no standing.
+    pub fn deadline(&self, i: usize) -> u64 {
         let released = self.history.iter().rev().find_map(|event| match *event {
             Event::Released { task, time } if task == i => Some(time),
             _ => None,
         });
-        released.map_or(0, |time| time + self.table.tasks[i].period)
+        released.map_or(0, |time| time + self.table.tasks[i].span())
     }
 
     fn last_release(&self) -> Option<u64> {

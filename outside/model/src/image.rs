@@ -1,4 +1,4 @@
-//! The image: 01, "The image" and "Numbers that come back".
+//! The image: 01, "The image" and "Numbers that come back", with the deadline of request a).
 
 use std::collections::BTreeSet;
 
@@ -8,6 +8,18 @@ pub struct Task {
     pub number: u16,
     pub period: u64,
     pub cost: u64,
+    /// As the record has it: 0 where the period is meant.
+    pub deadline: u64,
+}
+
+impl Task {
+    /// How long after its release a job must be done.
+    pub fn span(&self) -> u64 {
+        match self.deadline {
+            0 => self.period,
+            own => own,
+        }
+    }
 }
 
 /// A table: the figures of its board record, if there is one, its tasks, and its semaphores' numbers.
@@ -57,12 +69,15 @@ fn entry(record: &[u8]) -> Option<Used> {
                 number: little(&record[2..4]) as u16,
                 period: little(&record[4..8]),
                 cost: little(&record[8..12]),
+                deadline: little(&record[12..16]),
             };
+            let shorter = task.queue == 3 && (task.cost..task.period).contains(&task.deadline);
             let fits = (1..=3).contains(&task.queue)
                 && task.number >= 1
                 && (1_000..=100_000_000).contains(&task.period)
                 && (1..=task.period).contains(&task.cost)
-                && zero(12);
+                && (task.deadline == 0 || shorter)
+                && zero(16);
             fits.then_some(Used::Task(task))
         }
         2 => {
@@ -185,6 +200,7 @@ pub fn records(table: &Table) -> Vec<u8> {
         record.extend(task.number.to_le_bytes());
         record.extend((task.period as u32).to_le_bytes());
         record.extend((task.cost as u32).to_le_bytes());
+        record.extend((task.deadline as u32).to_le_bytes());
         all.push(record);
     }
     for number in &table.sems {

@@ -1,4 +1,4 @@
-//! Charges and judging: 01, "Charges" and "The tests".
+//! Charges and judging: 01, "Charges" and "The tests", with the limit that request a) gives to 14.
 
 use crate::image::{Table, Task};
 use std::collections::BTreeSet;
@@ -111,7 +111,7 @@ pub fn judge(table: &Table) -> (u8, u16) {
     for (i, (task, _)) in all.iter().enumerate().filter(|(_, (t, _))| t.queue == 3) {
         let demand = |t: u64| all[..=i].iter().map(|(other, load)| load * t.div_ceil(other.period)).sum();
         let periods = all[..=i].iter().map(|(t, _)| t.period).collect();
-        if !some_time(task.period, &periods, demand) {
+        if !some_time(task.span(), &periods, demand) {
             return (14, task.number);
         }
     }
