@@ -10,7 +10,7 @@ use lib.ListN.{length, take, drop}
 use borrow.Author.Tests.{eqb-true, ltb-true}
 use Rattle.table.specs.declared.Board.{Board}
 use Rattle.table.specs.declared.Task.{Task}
-use Rattle.table.specs.Entries.{builtIn}
+use Rattle.table.specs.Entries.{builtIn, spanOf}
 use Rattle.table.specs.Refusals.{firstOf}
 use Rattle.table.specs.Sums.{sumOf, countOf, every}
 use Rattle.table.proofs.SumLaws.{both-left, both-right, every-at}
@@ -137,7 +137,7 @@ all-parts (suc n) [] a b = tt
 all-parts (suc n) (c ∷ rest) a b = (a .0, all-parts n rest (a .1) b)
 
 p1-p9 : All (take 8 cases)
-unfolding cases right rightly same every fixedVerdict forced forcedList forcedColumns gcdForced lcmForced sharedForced longFrom fixedFrom fixedUpTo fixedLate fixedOutcome tasksIn countsOf choiceUnblocked sumBy chargeBy loadBy chargeOf loadOf plus fractions aboveOne overFull sumTo ceil star counted demandDP2 demandFP orElse firstBelow found columnsOf nameOf named builtIn firstOf sumOf countOf
+unfolding cases right rightly same every fixedVerdict forced forcedList forcedColumns gcdForced lcmForced sharedForced longFrom fixedFrom fixedUpTo fixedLate fixedOutcome tasksIn countsOf choiceUnblocked sumBy chargeBy loadBy chargeOf loadOf plus fractions aboveOne overFull sumTo ceil star counted demandDP2 demandFP orElse firstBelow found columnsOf nameOf named builtIn spanOf firstOf sumOf countOf
 p1-p9 = all-right (take 8 cases) refl
 
 -- P1 to P12

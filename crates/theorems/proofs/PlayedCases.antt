@@ -5,7 +5,7 @@ use lib.ListN.{drop}
 use Rattle.table.specs.Refusals.{firstOf, answered}
 use Rattle.table.specs.Sums.{any}
 use Rattle.table.specs.Places.{firstPlace, taskPlace, semPlace}
-use Rattle.table.specs.WellFormed.{within, taskInRange, semInRange, taskBefore, semBefore, used}
+use Rattle.table.specs.WellFormed.{within, dueInRange, taskInRange, semInRange, taskBefore, semBefore, used}
 use Rattle.executive.specs.States.{tasksOf, semsOf}
 use Rattle.waits.specs.Waits.{taskAt, semAt, waitsFor, heldBy, holderOf, waitsOn}
 use Rattle.waits.specs.Standing.{
@@ -61,5 +61,5 @@ use Rattle.theorems.specs.Histories.{called, after}
 use Rattle.theorems.specs.Cases.{loaded, runs, stepsOf, cases, All}
 
 pub p10-p12 : All (drop 8 cases)
-unfolding firstOf answered any firstPlace taskPlace semPlace within taskInRange semInRange taskBefore semBefore used tasksOf semsOf taskAt semAt waitsFor heldBy holderOf waitsOn shownDeadline ownOf better foundAnd passes reaches preferred bestAmong foundOr standingOf isIdle isReady readyAt waiterAt runningOf heirOf numberAt withTasks withSems withLast nowDoes nowHeld moved onTask isNone busy untimely noSemWait holdsIt closesRing notHeld releaseAt takeOrWait acquireAt handOver giveAt releaseOf withdrawOf acquireOf giveOf valueOf bytesOf readAt allAre taskIn semIn unlessOutOfRange taskDecoded semDecoded decoded encodeTask encodeSem freshTable taken addTask addSem addBoard erasedAfter usedAfter refusedAs follows orderBroken numberTwice tooMany refusalOf stateOf acceptedLoad finishedLoad loadFrom loadRecords recordsIn badLength loadOf flat encoded called after loaded runs stepsOf cases
+unfolding firstOf answered any firstPlace taskPlace semPlace within dueInRange taskInRange semInRange taskBefore semBefore used tasksOf semsOf taskAt semAt waitsFor heldBy holderOf waitsOn shownDeadline ownOf better foundAnd passes reaches preferred bestAmong foundOr standingOf isIdle isReady readyAt waiterAt runningOf heirOf numberAt withTasks withSems withLast nowDoes nowHeld moved onTask isNone busy untimely noSemWait holdsIt closesRing notHeld releaseAt takeOrWait acquireAt handOver giveAt releaseOf withdrawOf acquireOf giveOf valueOf bytesOf readAt allAre taskIn semIn unlessOutOfRange taskDecoded semDecoded decoded encodeTask encodeSem freshTable taken addTask addSem addBoard erasedAfter usedAfter refusedAs follows orderBroken numberTwice tooMany refusalOf stateOf acceptedLoad finishedLoad loadFrom loadRecords recordsIn badLength loadOf flat encoded called after loaded runs stepsOf cases
 p10-p12 = (refl, ((refl, refl), (refl, tt)))

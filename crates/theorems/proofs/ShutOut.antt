@@ -18,7 +18,7 @@ use Rattle.table.specs.Entries.{noFigures}
 use Rattle.table.specs.Refusals.{firstOf, answered}
 use Rattle.table.specs.Sums.{any}
 use Rattle.table.specs.Places.{firstPlace, taskPlace, semPlace}
-use Rattle.table.specs.WellFormed.{within, taskInRange, semInRange, boardInRange, taskBefore, semBefore, used}
+use Rattle.table.specs.WellFormed.{within, dueInRange, taskInRange, semInRange, boardInRange, taskBefore, semBefore, used}
 use Rattle.executive.specs.declared.state.State.{State}
 use Rattle.executive.specs.declared.standing.Stands.{Stands}
 use Rattle.executive.specs.States.{tasksOf, semsOf}
@@ -82,7 +82,7 @@ abbrev tableOfP1 : Table
 tableOfP1 = record { tasks = two 1000; sems = []; board = noFigures; present = true }
 
 p1-loads : (loadOf (encoded tableOfP1)) .number ≡ 0
-unfolding firstOf answered any within taskInRange boardInRange taskBefore used valueOf bytesOf readAt allAre taskIn boardIn unlessOutOfRange taskDecoded boardDecoded decoded encodeTask encodeBoard freshTable taken addTask addSem addBoard erasedAfter usedAfter refusedAs follows orderBroken numberTwice tooMany refusalOf stateOf acceptedLoad finishedLoad loadFrom loadRecords recordsIn badLength loadOf flat encoded
+unfolding firstOf answered any within dueInRange taskInRange boardInRange taskBefore used valueOf bytesOf readAt allAre taskIn boardIn unlessOutOfRange taskDecoded boardDecoded decoded encodeTask encodeBoard freshTable taken addTask addSem addBoard erasedAfter usedAfter refusedAs follows orderBroken numberTwice tooMany refusalOf stateOf acceptedLoad finishedLoad loadFrom loadRecords recordsIn badLength loadOf flat encoded
 p1-loads = refl
 
 pub loader-accepts : RefusesAll loadOf → ⊥
@@ -145,7 +145,7 @@ computed : (runs (loaded three) ≡ 0)
     × ((taskAt (tasksOf now) 2) .number ≡ 11)
     × (standingAfter three waited 11 ≡ fp 1)
     × (standingAfter three (waited ++ (acquire 1 ∷ [])) 11 ≡ fp 0)
-unfolding firstOf answered any firstPlace taskPlace semPlace within taskInRange semInRange taskBefore semBefore used tasksOf semsOf taskAt semAt waitsFor heldBy holderOf waitsOn shownDeadline ownOf better foundAnd passes reaches preferred bestAmong foundOr standingOf isIdle isReady readyAt runningOf numberAt withTasks withSems withLast nowDoes nowHeld moved onTask isNone busy untimely closesRing releaseAt takeOrWait acquireAt releaseOf acquireOf valueOf bytesOf readAt allAre taskIn semIn unlessOutOfRange taskDecoded semDecoded decoded encodeTask encodeSem freshTable taken addTask addSem addBoard erasedAfter usedAfter refusedAs follows orderBroken numberTwice tooMany refusalOf stateOf acceptedLoad finishedLoad loadFrom loadRecords recordsIn badLength loadOf flat encoded called after loaded runs shown standsOf standingAfter
+unfolding firstOf answered any firstPlace taskPlace semPlace within dueInRange taskInRange semInRange taskBefore semBefore used tasksOf semsOf taskAt semAt waitsFor heldBy holderOf waitsOn shownDeadline ownOf better foundAnd passes reaches preferred bestAmong foundOr standingOf isIdle isReady readyAt runningOf numberAt withTasks withSems withLast nowDoes nowHeld moved onTask isNone busy untimely closesRing releaseAt takeOrWait acquireAt releaseOf acquireOf valueOf bytesOf readAt allAre taskIn semIn unlessOutOfRange taskDecoded semDecoded decoded encodeTask encodeSem freshTable taken addTask addSem addBoard erasedAfter usedAfter refusedAs follows orderBroken numberTwice tooMany refusalOf stateOf acceptedLoad finishedLoad loadFrom loadRecords recordsIn badLength loadOf flat encoded called after loaded runs shown standsOf standingAfter
 computed = (refl, refl, refl, refl, refl, refl, refl)
 
 pub state-moves : NeverMoves called → ⊥

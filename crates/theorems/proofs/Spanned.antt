@@ -83,6 +83,7 @@ pub release-adds : Spans.ReleaseAdds
 unfolding called releaseOf moved taskAt
 release-adds s h i below time accepted = which (eqb (firstOf (refusals t)) 0) refl
   where
+    sound : Sound s
     sound = comes-sound s h
 
     t : Task
@@ -113,7 +114,7 @@ release-adds s h i below time accepted = which (eqb (firstOf (refusals t)) 0) re
 
 pub by-position : Spans.ByPosition
 unfolding ownOf shownDeadline
-by-position tasks i e = rw (e, eq-eqb ((taskAt tasks i) .queue) 3 e)
+by-position tasks i e = rw e
 
 -- a task whose record has no deadline
 noDue : Task → Bool
@@ -124,7 +125,7 @@ NoDue tasks = every noDue tasks ≡ true
 
 -- one record more
 taken-old : (t : Table) (r : List ℕ) → NoDue (t .tasks) → oldRecord r ≡ true → NoDue ((taken t (decoded r)) .tasks)
-unfolding decoded taskDecoded boardDecoded semDecoded unlessOutOfRange taken addTask addSem addBoard oldRecord taskIn readAt noDue NoDue
+unfolding decoded taskDecoded boardDecoded semDecoded unlessOutOfRange taken addTask addSem addBoard oldRecord taskIn readAt valueOf every noDue NoDue
 taken-old t r h old = one-of (allAre 255 r) Erased (others (eqb (getD r 0 0) 1)) h (first (eqb (getD r 0 0) 1) old)
   where
     After : Decoded → Type 0
