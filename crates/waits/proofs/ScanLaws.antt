@@ -21,7 +21,7 @@ use Rattle.waits.specs.declared.scan.Best.{Best}
 use Rattle.waits.specs.Waits.{taskAt, semAt, waitsFor, heldBy, waitsOn, Chained, Used}
 use Rattle.waits.specs.Standing.{foundAnd, ownOf, shownDeadline, better, preferred, bestAmong}
 use Rattle.waits.specs.Reaches.{Reaches}
-use Rattle.waits.specs.Scan.{walked, followed, takes, takenAt, holderLeads, ledBy, Linked, HoldersFit, ledTo, onward, meets, metBy, semCode, metCode, noBest, asBest, folded, winnerOf, bestFor, foldTo}
+use Rattle.waits.specs.Scan.{walked, followed, takes, takenAt, holderLeads, ledBy, Linked, HoldersFit, ledTo, onward, meets, metBy, semCode, metCode, noBest, asBest, isAhead, folded, winnerOf, bestFor, foldTo}
 use Rattle.waits.proofs.RankLaws.{best-is}
 use Rattle.waits.proofs.ChainLaws.{Long, waits-held, waits-none, chain, task-in, sem-in}
 
@@ -268,14 +268,9 @@ module _ (tasks : List Task) (sems : List Sem) (goal : Goal) where
 
   -- one task more: what the fold makes of the best so far is the best with that task
   fold-onto : (i m : ℕ) (w : Found) → metBy tasks sems goal i ≡ At m → (taskAt tasks i) .queue < 256 → ((b : ℕ) → w ≡ At b → b < i)
-      → cond
-      (ltb ((taskAt tasks i) .queue) ((bestFor tasks sems goal w) .queue)
-      || (eqb ((taskAt tasks i) .queue) ((bestFor tasks sems goal w) .queue)
-      && ltb (shownDeadline (taskAt tasks i)) ((bestFor tasks sems goal w) .deadline)))
-      (asBest (taskAt tasks i) i (64 + m))
-      (bestFor tasks sems goal w)
+      → cond (isAhead (bestFor tasks sems goal w) (taskAt tasks i)) (asBest (taskAt tasks i) i (64 + m)) (bestFor tasks sems goal w)
       ≡ bestFor tasks sems goal (preferred (ownOf tasks) i w)
-  unfolding bestFor noBest preferred metCode asBest
+  unfolding isAhead bestFor noBest preferred metCode asBest
   fold-onto i m Nothing e q below = rw (lt-ltb ((taskAt tasks i) .queue) 256 q, e)
   fold-onto i m (At b) e q below = rw (← late i b (below b refl)) (go (better (ownOf tasks i) (ownOf tasks b)))
     where
@@ -301,6 +296,24 @@ module _ (tasks : List Task) (sems : List Sem) (goal : Goal) where
       go Nothing e = refl
       go (At m) e =
           rw (le-ltb (64 + m) 64 (omega arith)) (fold-onto i m w e q (λ b h. best-is test (ownOf tasks) i b h .below))
+
+-- what the fold makes of the best so far, by what is asked of the task
+module _ (best : Best) (t : Task) (i met : ℕ) where
+  pub fold-behind : isAhead best t ≡ false → folded best t i met ≡ best
+  unfolding folded
+  fold-behind h = either (ltb met 64)
+    where
+      either : (b : Bool) → cond b best (cond (isAhead best t) (asBest t i met) best) ≡ best
+      either true = refl
+      either false = rw h
+
+  pub fold-unmet : met < 64 → folded best t i met ≡ best
+  unfolding folded
+  fold-unmet h = rw (lt-ltb met 64 h)
+
+  pub fold-ahead : isAhead best t ≡ true → 64 ≤ met → folded best t i met ≡ asBest t i met
+  unfolding folded
+  fold-ahead a h = rw (le-ltb met 64 h, a)
 
 -- so the fold over the tasks in use, with the table of links, keeps the best that meets the goal
 module _ (tasks : List Task) (n : ℕ) (sems : List Sem) (m : ℕ) (used : Used tasks n sems m) (goal : Goal) (link : List ℕ)

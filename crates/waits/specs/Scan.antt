@@ -95,15 +95,11 @@ noBest = record { queue = 256; deadline = 0; position = 0; met = 32 }
 unfoldable pub asBest : Task → ℕ → ℕ → Best
 asBest t i met = record { queue = t .queue; deadline = shownDeadline t; position = i; met = met }
 
+unfoldable pub isAhead : Best → Task → Bool
+isAhead best t = ltb (t .queue) (best .queue) || (eqb (t .queue) (best .queue) && ltb (shownDeadline t) (best .deadline))
+
 unfoldable pub folded : Best → Task → ℕ → ℕ → Best
-folded best t i met =
-    cond
-    (ltb met 64)
-    best
-    (cond
-    (ltb (t .queue) (best .queue) || (eqb (t .queue) (best .queue) && ltb (shownDeadline t) (best .deadline)))
-    (asBest t i met)
-    best)
+folded best t i met = cond (ltb met 64) best (cond (isAhead best t) (asBest t i met) best)
 
 -- the best so far over the first tasks, each with where the table leads it
 unfoldable pub foldTo : List Task → List ℕ → Goal → ℕ → Best

@@ -6,7 +6,7 @@ ghost use lib.ListN.{take};
 ghost use Rattle.waits.specs.Waits.{waitsFor, Used};
 ghost use Rattle.waits.specs.Standing.{shownDeadline};
 ghost use Rattle.waits.specs.Scan.{takes, semCode, holderLeads, Linked, walked, followed, ledTo, HoldersFit};
-ghost use Rattle.waits.specs.Scan.{folded, scanOf, metFound};
+ghost use Rattle.waits.specs.Scan.{isAhead, asBest, scanOf, metFound};
 use crate::standing;
 use table::Found;
 use table::Holder;
@@ -112,35 +112,25 @@ pub fn deadline_shown(t: Task) -> u64
     t.deadline
 }
 
-// The best so far with one task more. Tasks come by rising position, so that the earlier one stays where queue and
-// deadline are equal.
-fn fold(best: Best, t: Task, position: u64, met: u8) -> Best
-    ensures { λ r. ⌜ r ≡ folded best t position met ⌝ }
+// Whether a task would stand before the best so far. Tasks come by rising position, so that the earlier one stays where
+// queue and deadline are equal.
+fn ahead(best: Best, t: Task) -> bool
+    ensures { λ r. ⌜ r ≡ isAhead best t ⌝ }
 {
-    if met < MET {
-        return best;
-    }
     let queue = t.queue as u64;
-    let deadline = deadline_shown(t);
-    if queue < best.queue {
-        return Best {
-            queue,
-            deadline,
-            position,
-            met: met as u64,
-        };
+    (queue < best.queue) | ((queue == best.queue) & (deadline_shown(t) < best.deadline))
+}
+
+// The task as the best so far.
+fn as_best(t: Task, position: u64, met: u8) -> Best
+    ensures { λ r. ⌜ r ≡ asBest t position met ⌝ }
+{
+    Best {
+        queue: t.queue as u64,
+        deadline: deadline_shown(t),
+        position,
+        met: met as u64,
     }
-    if queue == best.queue {
-        if deadline < best.deadline {
-            return Best {
-                queue,
-                deadline,
-                position,
-                met: met as u64,
-            };
-        }
-    }
-    best
 }
 
 // The task that is met.
@@ -179,7 +169,8 @@ pub fn links(tasks: [Task; 64], sems: [Sem; 16], m: usize, goal: Goal) -> [u8; 1
     link
 }
 
-// The best own standing among the tasks whose chain of waits meets the goal.
+// The best own standing among the tasks whose chain of waits meets the goal. A chain is followed only for a task that
+// would stand before the best so far.
 pub fn scan(tasks: [Task; 64], n: usize, sems: [Sem; 16], m: usize, goal: Goal) -> Best
     requires { ⌜ Used tasks n sems m ⌝ }
     ensures { λ r. ⌜ r ≡ scanOf (take n tasks) (take m sems) goal n ⌝ }
@@ -194,9 +185,13 @@ pub fn scan(tasks: [Task; 64], n: usize, sems: [Sem; 16], m: usize, goal: Goal) 
     let mut i: usize = 0;
     while i < n {
         let t = tasks[i];
-        let status = t.status;
-        let met = led_to(link, goal, status, i as u8);
-        best = fold(best, t, i as u64, met);
+        if ahead(best, t) {
+            let status = t.status;
+            let met = led_to(link, goal, status, i as u8);
+            if met >= MET {
+                best = as_best(t, i as u64, met);
+            }
+        }
         i += 1;
     }
     best
