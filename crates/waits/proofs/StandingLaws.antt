@@ -6,7 +6,7 @@ use mathlib.Core.Bool.{Bool, true, false, not}
 use mathlib.Core.List.{List}
 use native.Mathlib.Omega.{arith}
 use lib.Dec.{leb, ltb, eqb}
-use lib.ListN.{length, List·getD-eq-default}
+use lib.ListN.{length, getD, take, List·getD-eq-default}
 use borrow.Author.Tests.{le-ltb, le-leb, ltb-true, ltb-false, eqb-true, ne-eqb, eq-eqb}
 use Rattle.table.specs.declared.Task.{Task}
 use Rattle.table.specs.declared.Sem.{Sem}
@@ -19,12 +19,12 @@ use Rattle.waits.specs.declared.scan.Goal.{Goal}
 use Rattle.waits.specs.declared.scan.Goal.the-variants.{Is, WaitsFor}
 use Rattle.waits.specs.declared.scan.Best.{Best}
 use Rattle.waits.specs.Waits.{taskAt, semAt, waitsFor, heldBy, Chained}
-use Rattle.waits.specs.Standing.{foundAnd, foundOr, ownOf, reaches, bestAmong, standingOf, isIdle, isReady, isEvent, isNone, readyAt, waiterAt, runningOf, heirOf, closesRing}
+use Rattle.waits.specs.Standing.{foundAnd, foundOr, ownRank, ownOf, reaches, bestAmong, standingOf, isIdle, isReady, isEvent, isNone, readyAt, waiterAt, runningOf, heirOf, closesRing}
 use Rattle.waits.specs.Doing.{doingOf}
 use Rattle.waits.specs.Reaches.{Reaches}
 use Rattle.waits.specs.Scan.{takes, takenAt, onward, meets, metBy, semCode, metCode, winnerOf, bestFor, noBest, asBest, metFound, scanOf, walked, ledBy, Linked}
 use Rattle.waits.proofs.RankLaws.{better-total, own-once, IsBest, best-is, best-none, best-some, best-nothing, best-only, best-same}
-use Rattle.waits.proofs.ChainLaws.{Long, waits-held, waits-none, on-held, long-once, chain, reached-below, reaches-true, true-reaches}
+use Rattle.waits.proofs.ChainLaws.{Long, task-in, waits-held, waits-none, on-held, long-once, chain, reached-below, reaches-true, true-reaches}
 use Rattle.waits.proofs.ScanLaws.{meets-is, Apart, is-met, walked-step, walked-stays, walked-meets}
 
 -- something was found, or nothing
@@ -69,6 +69,11 @@ doing-is Idle = (refl, refl, refl, refl)
 doing-is Ready = (refl, refl, refl, refl)
 doing-is Event = (refl, refl, refl, refl)
 doing-is (Waits k) = (refl, refl, refl, refl)
+
+-- the entry at a position that is in use has the own standing of the task there
+pub own-is : (tasks : List Task) (n i : ℕ) → i < n → ownRank (getD tasks i blankTask) i ≡ ownOf (take n tasks) i
+unfolding ownOf
+own-is tasks n i h = ap (λ (t : Task). ownRank t i) (sym (task-in tasks n i h))
 
 -- who waits for a semaphore is a task that there is
 pub waits-below : (tasks : List Task) (a k : ℕ) → waitsFor ((taskAt tasks a) .status) ≡ At k → a < length tasks

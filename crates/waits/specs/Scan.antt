@@ -17,6 +17,7 @@ use Rattle.table.specs.Sums.{any}
 use Rattle.waits.specs.declared.scan.Goal.{Goal}
 use Rattle.waits.specs.declared.scan.Goal.the-variants.{Ready, Is, WaitsFor}
 use Rattle.waits.specs.declared.scan.Best.{Best}
+use Rattle.waits.specs.declared.standing.Alone.{Alone}
 use Rattle.waits.specs.Waits.{taskAt, semAt, waitsFor, heldBy, holderOf, waitsOn}
 use Rattle.waits.specs.Standing.{foundAnd, ownOf, shownDeadline, bestAmong, isReady}
 
@@ -125,3 +126,7 @@ metFound best = cond (ltb (best .met) 64) Nothing (At (best .met - 64))
 -- somebody waits for a semaphore that the task at a position holds
 unfoldable pub waitedOn : List Task → List Sem → ℕ → Bool
 waitedOn tasks sems i = any (λ t. foundAnd (λ at. eqb at i) (holderOf sems (waitsFor (t .status)))) tasks
+
+-- the own standing of the task at a position, and whether somebody waits on it
+unfoldable pub aloneOf : List Task → List Sem → ℕ → Alone
+aloneOf tasks sems i = record { rank = ownOf tasks i; waited = waitedOn tasks sems i }

@@ -1,12 +1,13 @@
 // Standing and the running task. Nothing is kept: both are worked out from who waits for what.
 ghost use mathlib.Core.Path.{_≡_};
 ghost use Prim.Native.Nat.{_<_, _≤_};
-ghost use lib.ListN.{length, take};
+ghost use lib.ListN.{length, getD, take};
+ghost use Rattle.table.specs.Entries.{blankTask};
 ghost use Rattle.waits.specs.Waits.{Used};
 ghost use Rattle.waits.specs.Doing.{doingOf};
 ghost use Rattle.waits.specs.Standing.{holdsIt, stillHolds, ownRank, standingOf, runningOf, heirOf};
 ghost use Rattle.waits.specs.Standing.{closesRing};
-ghost use Rattle.waits.specs.Scan.{waitedOn};
+ghost use Rattle.waits.specs.Scan.{aloneOf};
 use crate::scan;
 use crate::scan::Goal;
 use table::Found;
@@ -111,11 +112,26 @@ fn own(t: Task, position: u8) -> Rank
     }
 }
 
-// Whether somebody waits for a semaphore that the task at a position holds.
-fn waited_on(tasks: [Task; 64], n: usize, sems: [Sem; 16], m: usize, i: usize) -> bool
-    requires { ⌜ Used tasks n sems m ⌝ }
-    ensures { λ r. ⌜ r ≡ waitedOn (take n tasks) (take m sems) i ⌝ }
+// The own standing of the task at a position, for who does not look at the entries else.
+fn own_at(tasks: [Task; 64], at: usize) -> Rank
+    requires { ⌜ (at < 64) × (at < length tasks) ⌝ }
+    ensures { λ r. ⌜ r ≡ ownRank (getD tasks at blankTask) at ⌝ }
 {
+    own(tasks[at], at as u8)
+}
+
+// A task's own standing, and whether somebody waits for a semaphore that it holds.
+struct Alone {
+    rank: Rank,
+    waited: bool,
+}
+
+// Both come from one function: each function that looks at the entries copies them.
+fn stands_alone(tasks: [Task; 64], n: usize, sems: [Sem; 16], m: usize, i: usize) -> Alone
+    requires { ⌜ Used tasks n sems m × (i < n) ⌝ }
+    ensures { λ r. ⌜ r ≡ aloneOf (take n tasks) (take m sems) i ⌝ }
+{
+    let rank = own(tasks[i], i as u8);
     let mut j: usize = 0;
     while j < n {
         let t = tasks[j];
@@ -125,10 +141,13 @@ fn waited_on(tasks: [Task; 64], n: usize, sems: [Sem; 16], m: usize, i: usize) -
             continue;
         };
         if holds_it(i, sems[k as usize]) {
-            return true;
+            return Alone { rank, waited: true };
         }
     }
-    false
+    Alone {
+        rank,
+        waited: false,
+    }
 }
 
 // The standing of the task at a position: the best of its own and those of all that wait for it.
@@ -136,10 +155,10 @@ pub fn standing(tasks: [Task; 64], n: usize, sems: [Sem; 16], m: usize, i: usize
     requires { ⌜ Used tasks n sems m × (i < n) ⌝ }
     ensures { λ r. ⌜ r ≡ standingOf (take n tasks) (take m sems) i ⌝ }
 {
-    if !waited_on(tasks, n, sems, m, i) {
-        return own(tasks[i], i as u8);
+    let first = stands_alone(tasks, n, sems, m, i);
+    if !first.waited {
+        return first.rank;
     }
     let best = scan::scan(tasks, n, sems, m, Goal::Is(i as u8));
-    let at = best.position as usize;
-    own(tasks[at], at as u8)
+    own_at(tasks, best.position as usize)
 }
