@@ -3,10 +3,11 @@
 use Prim.Native.Nat.{ℕ, zero, suc, _+_, _≤_, _<_}
 use mathlib.Core.Path.{_≡_, refl, sym, ap, subst, _∙_}
 use mathlib.Core.Bool.{Bool, true, false, cond, _&&_, _||_}
-use mathlib.Core.List.{List}
+use mathlib.Core.List.{List, [], _∷_, map}
+use native.Mathlib.Nat.{le-of-suc-le-suc, not-suc-le-zero}
 use native.Mathlib.Omega.{arith}
 use lib.Dec.{ltb, eqb}
-use lib.ListN.{length, take, getD, set, length-set}
+use lib.ListN.{length, take, getD, set, length-set, length-map}
 use lib.Seq.{length-take-le, getD-set-same, getD-set-other}
 use borrow.Author.Tests.{lt-ltb, le-ltb, eqb-true, eqb-false, ltb-true, ltb-false}
 use Rattle.table.specs.declared.Task.{Task}
@@ -21,7 +22,7 @@ use Rattle.waits.specs.declared.scan.Best.{Best}
 use Rattle.waits.specs.Waits.{taskAt, semAt, waitsFor, heldBy, waitsOn, Chained, Used}
 use Rattle.waits.specs.Standing.{foundAnd, ownOf, shownDeadline, better, preferred, bestAmong}
 use Rattle.waits.specs.Reaches.{Reaches}
-use Rattle.waits.specs.Scan.{walked, followed, takes, takenAt, holderLeads, ledBy, Linked, HoldersFit, ledTo, onward, meets, metBy, semCode, metCode, noBest, asBest, isAhead, folded, winnerOf, bestFor, foldTo}
+use Rattle.waits.specs.Scan.{walked, followed, takes, takenAt, holderLeads, ledBy, Linked, ledTo, onward, meets, metBy, semCode, metCode, noBest, asBest, isAhead, folded, winnerOf, bestFor, foldTo}
 use Rattle.waits.proofs.RankLaws.{best-is}
 use Rattle.waits.proofs.ChainLaws.{Long, waits-held, waits-none, chain, task-in, sem-in}
 
@@ -54,6 +55,20 @@ walked-more (suc steps) link at h = go (ltb at 16) refl h (walked-more steps lin
         → (walked (suc (suc steps)) link at ≡ walked (suc steps) link at) × (left (suc (suc steps)) link at ≡ left (suc steps) link at)
     go true e h rec = let r = rec h in (rw e (r .0), rw e (ap suc (r .1)))
     go false e h rec = (rw e, rw e)
+
+-- one step of a walk that comes to its end: the rest ends at the same place, and sooner
+pub walk-next : (link : List ℕ) (at : ℕ) → at < 16 → 16 ≤ walked 17 link at
+    → let next = getD link at 0 in (16 ≤ walked 17 link next) × (walked 17 link next ≡ walked 17 link at) × (left 17 link next < left 17 link at)
+unfolding left
+walk-next link at h e =
+    let next = getD link at 0 in
+    let rest : 16 ≤ walked 16 link next = rw (walked-step 16 link at h) at e in
+    let more = walked-more 16 link next rest in
+    let now : left 17 link at ≡ suc (left 16 link next) = rw (lt-ltb at 16 h) in
+    (rw (more .0) rest, more .0 ∙ sym (walked-step 16 link at h), lower (left 17 link next) (left 17 link at) (left 16 link next) (more .1) now)
+  where
+    lower : (x y z : ℕ) → x ≡ z → y ≡ suc z → x < y
+    lower x y z p q = omega arith
 
 -- a table that is filled from the front, with one entry more
 pub table-more : (link next : List ℕ) (k v : ℕ) (f : ℕ → ℕ) → length link ≡ 16 → k < 16 → next ≡ set link k v → v ≡ f k
@@ -93,6 +108,17 @@ led-free tasks sems m goal k h e =
     (ap (λ (x : Sem). ledBy tasks goal (heldBy (x .holder))) (sem-in sems m k h)
     ∙ ap (λ (x : Holder). ledBy tasks goal (heldBy x)) e)
 
+-- the table worked out from the entries, with no table made
+pub leadsOf : List Task → List Sem → Goal → List ℕ
+leadsOf tasks sems goal = map (λ s. ledBy tasks goal (heldBy (s .holder))) sems
+
+leads-at : (tasks : List Task) (sems : List Sem) (goal : Goal) (k : ℕ) → k < length sems
+    → getD (leadsOf tasks sems goal) k 0 ≡ ledBy tasks goal (heldBy ((getD sems k blankSem) .holder))
+unfolding leadsOf
+leads-at tasks [] goal k h = absurd (not-suc-le-zero h)
+leads-at tasks (s ∷ rest) goal zero h = refl
+leads-at tasks (s ∷ rest) goal (suc k) h = leads-at tasks rest goal k (le-of-suc-le-suc h)
+
 -- what holds of the entries that are in use
 module _ (tasks : List Task) (n : ℕ) (sems : List Sem) (m : ℕ) (used : Used tasks n sems m) where
   pub tasks-used : length (take n tasks) ≡ n
@@ -110,16 +136,6 @@ module _ (tasks : List Task) (n : ℕ) (sems : List Sem) (m : ℕ) (used : Used 
       let below = used .chained .held k (omega arith) i (ap (λ (x : Sem). heldBy (x .holder)) (sem-in sems m k h) ∙ ap heldBy e) in
       omega arith
 
-  pub holders-fit : HoldersFit tasks sems m
-  holders-fit =
-      record {
-        tasksLength = used .tasksLength;
-        semsLength = used .semsLength;
-        semsFit = used .semsFit;
-        held = λ k h i e. let below = holder-below k h i e in let f = used .tasksFit in omega arith;
-      }
-
-  -- so the table over all entries is the table over those in use
   pub linked-used : (goal : Goal) (link : List ℕ) → Linked tasks (take m sems) goal link → Linked (take n tasks) (take m sems) goal link
   unfolding ledBy
   linked-used goal link linked = record { long = linked .long; leads = λ k h. linked .leads k h ∙ same k h (heldBy ((semAt (take m sems) k) .holder)) refl }
@@ -220,6 +236,30 @@ module _ (tasks : List Task) (sems : List Sem) (goal : Goal) where
           let l = chain tasks sems c j (c .held k hk j e) in
           let b = l .2 in
           rw (walked-meets c link linked small 17 17 k hk e (l .1) (omega arith) (omega arith)) (met-ends (meets tasks sems goal 17 j))
+
+  -- a semaphore that the table leads to is one that there is
+  pub led-within : Chained tasks sems → (link : List ℕ) → Linked tasks sems goal link → (k : ℕ) → k < length sems → getD link k 0 < 16
+      → getD link k 0 < length sems
+  unfolding ledBy holderLeads semCode
+  led-within c link linked k hk small = go (heldBy ((semAt sems k) .holder)) refl
+    where
+      go : (f : Found) → heldBy ((semAt sems k) .holder) ≡ f → getD link k 0 < length sems
+      go Nothing e = let same = linked .leads k hk ∙ ap (ledBy tasks goal) e in absurd (omega arith)
+      go (At i) e = behind (takes goal ((taskAt tasks i) .status) i) (waitsFor ((taskAt tasks i) .status)) refl refl
+        where
+          same : getD link k 0 ≡ cond (takes goal ((taskAt tasks i) .status) i) (64 + i) (semCode (waitsFor ((taskAt tasks i) .status)))
+          same = linked .leads k hk ∙ ap (ledBy tasks goal) e
+
+          behind : (t : Bool) (f : Found) → takes goal ((taskAt tasks i) .status) i ≡ t → waitsFor ((taskAt tasks i) .status) ≡ f
+              → getD link k 0 < length sems
+          behind true f p q = let v = same ∙ ap (λ (b : Bool). cond b (64 + i) (semCode (waitsFor ((taskAt tasks i) .status)))) p in absurd (omega arith)
+          behind false Nothing p q =
+              let v = same ∙ ap (λ (b : Bool). cond b (64 + i) (semCode (waitsFor ((taskAt tasks i) .status)))) p ∙ ap semCode q in
+              absurd (omega arith)
+          behind false (At at) p q =
+              let v = same ∙ ap (λ (b : Bool). cond b (64 + i) (semCode (waitsFor ((taskAt tasks i) .status)))) p ∙ ap semCode q in
+              let below = c .waits i (c .held k hk i e) at q .0 in
+              omega arith
 
   pub follow-ends : Chained tasks sems → (link : List ℕ) → Linked tasks sems goal link → length sems ≤ 16 → (i : ℕ) → i < length tasks
       → 16 ≤ followed link (waitsFor ((taskAt tasks i) .status))
@@ -348,3 +388,69 @@ module _ (tasks : List Task) (n : ℕ) (sems : List Sem) (m : ℕ) (used : Used 
 
       all : (i : ℕ) → taskAt tasks i ≡ getD tasks i blankTask
       all i = unfold taskAt in refl
+
+-- a chain followed over the entries themselves: the place that was come to is a semaphore that there is or the chain's end, and from there on the
+-- chain ends where it does from the first one
+pub record OnChain (tasks : List Task) (sems : List Sem) (m : ℕ) (goal : Goal) (from at : ℕ) : Type 0 where
+  pub within : at < 16 → at < m
+  pub ends : 16 ≤ walked 17 (leadsOf tasks sems goal) at
+  pub same : walked 17 (leadsOf tasks sems goal) at ≡ walked 17 (leadsOf tasks sems goal) from
+
+module _ (tasks : List Task) (n : ℕ) (sems : List Sem) (m : ℕ) (used : Used tasks n sems m) (goal : Goal) where
+  leads-linked : Linked tasks (take m sems) goal (leadsOf tasks sems goal)
+  unfolding leadsOf
+  leads-linked =
+      let z = used .semsLength in
+      let f = used .semsFit in
+      let sl = sems-used tasks n sems m used in
+      record {
+        long = length-map sems (λ s. ledBy tasks goal (heldBy (s .holder))) ∙ z;
+        leads =
+            λ k h.
+            leads-at tasks sems goal k (omega arith)
+            ∙ ap (λ (s : Sem). ledBy tasks goal (heldBy (s .holder))) (sym (sem-in sems m k (omega arith)));
+      }
+
+  pub leads-used : Linked (take n tasks) (take m sems) goal (leadsOf tasks sems goal)
+  leads-used = linked-used tasks n sems m used goal (leadsOf tasks sems goal) leads-linked
+
+  pub chain-starts : (k : ℕ) → k < m → OnChain tasks sems m goal k k
+  chain-starts k h =
+      let f = used .semsFit in
+      let sl = sems-used tasks n sems m used in
+      record {
+        within = λ _. h;
+        ends = walk-ends (take n tasks) (take m sems) goal (used .chained) (leadsOf tasks sems goal) leads-used (omega arith) k (omega arith);
+        same = refl;
+      }
+
+  -- what is read at a semaphore is where the table leads
+  pub reads-free : (at : ℕ) → at < m → (getD sems at blankSem) .holder ≡ Free → 32 ≡ getD (leadsOf tasks sems goal) at 0
+  reads-free at h e =
+      let sl = sems-used tasks n sems m used in
+      led-free tasks sems m goal at h e ∙ sym (leads-linked .leads at (omega arith))
+
+  pub reads-held : (at : ℕ) → at < m → (i : ℕ) → (getD sems at blankSem) .holder ≡ By i
+      → holderLeads goal ((getD tasks i blankTask) .status) i ≡ getD (leadsOf tasks sems goal) at 0
+  reads-held at h i e =
+      let sl = sems-used tasks n sems m used in
+      led-held tasks sems m goal at h i e ∙ sym (leads-linked .leads at (omega arith))
+
+  pub chain-on : (from at next : ℕ) → OnChain tasks sems m goal from at → at < 16 → next ≡ getD (leadsOf tasks sems goal) at 0
+      → OnChain tasks sems m goal from next × (left 17 (leadsOf tasks sems goal) next < left 17 (leadsOf tasks sems goal) at)
+  chain-on from at next o h e =
+      let sl = sems-used tasks n sems m used in
+      let step = walk-next (leadsOf tasks sems goal) at h (o .ends) in
+      let below = o .within h in (
+        record {
+          within =
+              λ small.
+              let led =
+              led-within (take n tasks) (take m sems) goal (used .chained) (leadsOf tasks sems goal) leads-used at (omega arith) (omega arith)
+              in
+              omega arith;
+          ends = rw e (step .0);
+          same = rw e (step .1 ∙ o .same);
+        },
+        rw e (step .2),
+      )

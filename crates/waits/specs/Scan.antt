@@ -63,13 +63,6 @@ unfoldable pub ledBy : List Task → Goal → Found → ℕ
 ledBy tasks goal Nothing = 32
 ledBy tasks goal (At i) = holderLeads goal ((taskAt tasks i) .status) i
 
--- who holds one of the first m semaphores stands among the task entries
-pub record HoldersFit (tasks : List Task) (sems : List Sem) (m : ℕ) : Type 0 where
-  pub tasksLength : length tasks ≡ 64
-  pub semsLength : length sems ≡ 16
-  pub semsFit : m ≤ 16
-  pub held : (k : ℕ) → k < m → (i : ℕ) → (getD sems k blankSem) .holder ≡ By i → i < 64
-
 -- a table of where each semaphore leads
 pub record Linked (tasks : List Task) (sems : List Sem) (goal : Goal) (link : List ℕ) : Type 0 where
   pub long : length link ≡ 16

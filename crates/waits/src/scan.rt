@@ -5,8 +5,8 @@ ghost use Prim.Native.Nat.{_<_, _≤_};
 ghost use lib.ListN.{take};
 ghost use Rattle.waits.specs.Waits.{waitsFor, Used};
 ghost use Rattle.waits.specs.Standing.{shownDeadline};
-ghost use Rattle.waits.specs.Scan.{takes, semCode, holderLeads, Linked, walked, followed, ledTo, HoldersFit};
-ghost use Rattle.waits.specs.Scan.{isAhead, asBest, scanOf, metFound};
+ghost use Rattle.waits.specs.Scan.{takes, semCode, holderLeads, walked, followed, ledTo};
+ghost use Rattle.waits.specs.Scan.{noBest, isAhead, asBest, scanOf, metFound};
 use crate::standing;
 use table::Found;
 use table::Holder;
@@ -34,7 +34,7 @@ pub struct Best {
 // takes, between them nobody.
 pub const MET: u8 = 64;
 
-const NOBODY: u8 = 32;
+pub const NOBODY: u8 = 32;
 
 // No queue is as large as this, so that any task is better.
 const NO_QUEUE: u64 = 256;
@@ -65,7 +65,7 @@ fn taken(goal: Goal, status: Status, place: u8) -> bool
 }
 
 // Where a holder leads.
-fn led_by(goal: Goal, status: Status, place: u8) -> u8
+pub fn led_by(goal: Goal, status: Status, place: u8) -> u8
     requires { ⌜ place < 64 ⌝ }
     ensures { λ r. ⌜ r ≡ holderLeads goal status place ⌝ }
 {
@@ -76,7 +76,7 @@ fn led_by(goal: Goal, status: Status, place: u8) -> u8
 }
 
 // The table followed from a place on. A chain passes each semaphore once, so that it comes to an end.
-pub fn walk(link: [u8; 16], from: u8) -> u8
+fn walk(link: [u8; 16], from: u8) -> u8
     requires { ⌜ 16 ≤ walked 17 link from ⌝ }
     ensures { λ r. ⌜ r ≡ walked 17 link from ⌝ }
 {
@@ -112,6 +112,18 @@ pub fn deadline_shown(t: Task) -> u64
     t.deadline
 }
 
+// The best so far, before any task.
+fn none_yet() -> Best
+    ensures { λ r. ⌜ r ≡ noBest ⌝ }
+{
+    Best {
+        queue: NO_QUEUE,
+        deadline: 0,
+        position: 0,
+        met: NOBODY as u64,
+    }
+}
+
 // Whether a task would stand before the best so far. Tasks come by rising position, so that the earlier one stays where
 // queue and deadline are equal.
 fn ahead(best: Best, t: Task) -> bool
@@ -143,10 +155,12 @@ pub fn met_at(best: Best) -> Found
     Found::At((best.met - 64) as usize)
 }
 
-// For each semaphore, where its holder leads.
-pub fn links(tasks: [Task; 64], sems: [Sem; 16], m: usize, goal: Goal) -> [u8; 16]
-    requires { ⌜ HoldersFit tasks sems m ⌝ }
-    ensures { λ r. ⌜ Linked tasks (take m sems) goal r ⌝ }
+// The best own standing among the tasks whose chain of waits meets the goal. A chain is followed only for a task that
+// would stand before the best so far. The table over the semaphores is made here too, since each function that looks at
+// the entries copies them.
+pub fn scan(tasks: [Task; 64], n: usize, sems: [Sem; 16], m: usize, goal: Goal) -> Best
+    requires { ⌜ Used tasks n sems m ⌝ }
+    ensures { λ r. ⌜ r ≡ scanOf (take n tasks) (take m sems) goal n ⌝ }
 {
     let mut link = [NOBODY; 16];
     let mut k: usize = 0;
@@ -157,31 +171,15 @@ pub fn links(tasks: [Task; 64], sems: [Sem; 16], m: usize, goal: Goal) -> [u8; 1
             Holder::Free => {
                 link[k] = NOBODY;
             }
-            Holder::By(i) => {
-                let at = i as usize;
-                let t = tasks[at];
+            Holder::By(place) => {
+                let t = tasks[place as usize];
                 let status = t.status;
-                link[k] = led_by(goal, status, i);
+                link[k] = led_by(goal, status, place);
             }
         }
         k += 1;
     }
-    link
-}
-
-// The best own standing among the tasks whose chain of waits meets the goal. A chain is followed only for a task that
-// would stand before the best so far.
-pub fn scan(tasks: [Task; 64], n: usize, sems: [Sem; 16], m: usize, goal: Goal) -> Best
-    requires { ⌜ Used tasks n sems m ⌝ }
-    ensures { λ r. ⌜ r ≡ scanOf (take n tasks) (take m sems) goal n ⌝ }
-{
-    let link = links(tasks, sems, m, goal);
-    let mut best = Best {
-        queue: NO_QUEUE,
-        deadline: 0,
-        position: 0,
-        met: NOBODY as u64,
-    };
+    let mut best = none_yet();
     let mut i: usize = 0;
     while i < n {
         let t = tasks[i];

@@ -85,7 +85,8 @@ pub fn heir(tasks: [Task; 64], n: usize, sems: [Sem; 16], m: usize, k: usize) ->
     scan::met_at(scan::scan(tasks, n, sems, m, Goal::WaitsFor(k as u8)))
 }
 
-// Whether an acquire of the semaphore at k by the task at i would close a ring of waits.
+// Whether an acquire of the semaphore at k by the task at i would close a ring of waits: the chain that starts at the
+// semaphore's holder comes to that task.
 pub fn closes_ring(
     tasks: [Task; 64],
     n: usize,
@@ -97,8 +98,23 @@ pub fn closes_ring(
     requires { ⌜ Used tasks n sems m × (i < n) × (k < m) ⌝ }
     ensures { λ r. ⌜ r ≡ closesRing (take n tasks) (take m sems) i k ⌝ }
 {
-    let link = scan::links(tasks, sems, m, Goal::Is(i as u8));
-    scan::walk(link, k as u8) >= scan::MET
+    let goal = Goal::Is(i as u8);
+    let mut at = k as u8;
+    while at < 16 {
+        let entry = sems[at as usize];
+        let holder = entry.holder;
+        match holder {
+            Holder::Free => {
+                at = scan::NOBODY;
+            }
+            Holder::By(place) => {
+                let t = tasks[place as usize];
+                let status = t.status;
+                at = scan::led_by(goal, status, place);
+            }
+        }
+    }
+    at >= scan::MET
 }
 
 // The own standing of a task at a position.
