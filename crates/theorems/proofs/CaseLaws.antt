@@ -46,6 +46,7 @@ use Rattle.judging.proofs.FixedLaws.{
   fixedOutcome,
   fixed-outcome,
 }
+use Rattle.theorems.specs.Spans.{guards}
 use Rattle.theorems.specs.Cases.{Case, judged, shared, played, undone, Judged, Holds, cases, All}
 use Rattle.theorems.proofs.PlayedCases.{p10-p12}
 
@@ -136,9 +137,16 @@ all-parts zero l a b = b
 all-parts (suc n) [] a b = tt
 all-parts (suc n) (c ∷ rest) a b = (a .0, all-parts n rest (a .1) b)
 
+judged-rows : (every right (take 8 cases) ≡ true) × (every right guards ≡ true)
+unfolding cases guards right rightly same every fixedVerdict forced forcedList forcedColumns gcdForced lcmForced sharedForced longFrom fixedFrom fixedUpTo fixedLate fixedOutcome tasksIn countsOf choiceUnblocked sumBy chargeBy loadBy chargeOf loadOf plus fractions aboveOne overFull sumTo ceil star counted demandDP2 demandFP orElse firstBelow found columnsOf nameOf named builtIn spanOf firstOf sumOf countOf
+judged-rows = (refl, refl)
+
 p1-p9 : All (take 8 cases)
-unfolding cases right rightly same every fixedVerdict forced forcedList forcedColumns gcdForced lcmForced sharedForced longFrom fixedFrom fixedUpTo fixedLate fixedOutcome tasksIn countsOf choiceUnblocked sumBy chargeBy loadBy chargeOf loadOf plus fractions aboveOne overFull sumTo ceil star counted demandDP2 demandFP orElse firstBelow found columnsOf nameOf named builtIn spanOf firstOf sumOf countOf
-p1-p9 = all-right (take 8 cases) refl
+p1-p9 = all-right (take 8 cases) (judged-rows .0)
+
+-- the pulse guard
+pub guard-rows : All guards
+guard-rows = all-right guards (judged-rows .1)
 
 -- P1 to P12
 pub cases-hold : All cases

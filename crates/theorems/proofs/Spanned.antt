@@ -60,6 +60,7 @@ use Rattle.theorems.specs.Comes.{Comes}
 use Rattle.theorems.specs.Histories.{release, called}
 use Rattle.theorems.specs.Spans
 use Rattle.theorems.specs.Spans.{oldRecord}
+use Rattle.theorems.proofs.CaseLaws.{guard-rows}
 use Rattle.theorems.proofs.Shown.{comes-sound}
 
 pub due-fits : Spans.DueFits
@@ -115,6 +116,9 @@ release-adds s h i below time accepted = which (eqb (firstOf (refusals t)) 0) re
 pub by-position : Spans.ByPosition
 unfolding ownOf shownDeadline
 by-position tasks i e = rw e
+
+pub guards-hold : Spans.GuardsHold
+guards-hold = guard-rows
 
 -- a task whose record has no deadline
 noDue : Task → Bool

@@ -3,13 +3,13 @@ use Prim.Native.Nat.{ℕ, _+_, _/_, _≤_, _<_}
 use mathlib.Core.Path.{_≡_}
 use mathlib.Core.Logic.{_↔_, _⊎_}
 use mathlib.Core.Bool.{Bool, true, not, _||_}
-use mathlib.Core.List.{List}
+use mathlib.Core.List.{List, [], _∷_}
 use lib.Dec.{eqb}
 use lib.ListN.{length, getD, take, drop}
 use Rattle.fields.specs.Fields.{allAre}
 use Rattle.table.specs.declared.Board.{Board}
 use Rattle.table.specs.declared.Task.{Task}
-use Rattle.table.specs.Entries.{spanOf}
+use Rattle.table.specs.Entries.{builtIn, spanOf}
 use Rattle.table.specs.Sums.{every}
 use Rattle.waits.specs.Waits.{taskAt}
 use Rattle.waits.specs.Standing.{ownOf}
@@ -18,6 +18,7 @@ use Rattle.executive.specs.States.{tasksOf}
 use Rattle.judging.specs.Columns.{columnsOf}
 use Rattle.judging.specs.Demands.{demandFP, TimeUpTo, TimeFP}
 use Rattle.image.specs.Loading.{loadOf, recordsIn}
+use Rattle.theorems.specs.Cases.{Case, judged, task, All}
 use Rattle.theorems.specs.Comes.{Comes}
 use Rattle.theorems.specs.Histories.{release, called}
 
@@ -47,6 +48,36 @@ ReleaseAdds =
 -- "Dispatch in FP stays by position": a task's own standing there has deadline 0, whatever its record says
 abbrev pub ByPosition : Type 0
 ByPosition = (tasks : List Task) (i : ℕ) → (taskAt tasks i) .queue ≡ 3 → ownOf tasks i ≡ record { queue = 3; deadline = 0; position = i }
+
+-- a task with a deadline of its own
+abbrev ownDue : Task → ℕ → Task
+ownDue t due =
+    record {
+      deadline = t .deadline;
+      period = t .period;
+      cost = t .cost;
+      due = due;
+      number = t .number;
+      queue = t .queue;
+      status = t .status;
+    }
+
+-- the pulse guard of examples/tables, task 7, behind two loops
+abbrev guarded : ℕ → ℕ → ℕ → List Task
+guarded second due last =
+    task 1 1 400000 100000 ∷ task 1 2 500000 second ∷ ownDue (task 3 7 1000000 60000) due ∷ task 3 9 2000000 last ∷ []
+
+-- "The pulse guard must finish well before its next period": with the period it passes, with its deadline it is refused with 14, and where task 2
+-- leaves a part of its work to task 9 it fits
+unfoldable pub guards : List Case
+guards =
+    judged (guarded 120000 0 200000) builtIn (1260 ∷ 1260 ∷ 1143 ∷ 1143 ∷ []) 0 0
+    ∷ judged (guarded 120000 250000 200000) builtIn (1260 ∷ 1260 ∷ 1143 ∷ 1143 ∷ []) 14 7
+    ∷ judged (guarded 80000 250000 360000) builtIn (1260 ∷ 1260 ∷ 1143 ∷ 1143 ∷ []) 0 0
+    ∷ []
+
+abbrev pub GuardsHold : Type 0
+GuardsHold = All guards
 
 -- "old images read as before": a record that is no task, or whose bytes 12..15 are zero
 unfoldable pub oldRecord : List ℕ → Bool
