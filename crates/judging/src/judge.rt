@@ -29,7 +29,8 @@ fn late(queues: &[u8], periods: &[u64], loads: &[u64], spans: &[u64], queue: u8,
         × (i < length (now queues)) ⌝ }
     ensures { λ r.
         ⌜ r
-        ≡ late queue (withSpans (columns (now (queues .entry)) (now (periods .entry)) (now (loads .entry))) (now (spans .entry))) i ⌝ }
+        ≡ late queue
+        (withSpans (columns (now (queues .entry)) (now (periods .entry)) (now (loads .entry))) (now (spans .entry))) i ⌝ }
 {
     if queues[i] != queue {
         return false;
@@ -44,10 +45,12 @@ fn late(queues: &[u8], periods: &[u64], loads: &[u64], spans: &[u64], queue: u8,
 
 // The first task of the queue in table order that has no time.
 fn first_late(queues: &[u8], periods: &[u64], loads: &[u64], spans: &[u64], queue: u8) -> Found
-    requires { ⌜ InRange (columns (now queues) (now periods) (now loads)) × SpansInRange (length (now queues)) (now spans) ⌝ }
+    requires { ⌜ InRange (columns (now queues) (now periods) (now loads))
+        × SpansInRange (length (now queues)) (now spans) ⌝ }
     ensures { λ r.
         ⌜ r
-        ≡ firstLate queue (withSpans (columns (now (queues .entry)) (now (periods .entry)) (now (loads .entry))) (now (spans .entry))) ⌝ }
+        ≡ firstLate queue
+        (withSpans (columns (now (queues .entry)) (now (periods .entry)) (now (loads .entry))) (now (spans .entry))) ⌝ }
 {
     let mut i: usize = 0;
     while i < queues.len() {
@@ -80,10 +83,12 @@ fn named(number: u8, i: usize) -> Outcome
 
 // The tests in their order: 7, 10, 11, 12, 13, 14.
 fn outcome(queues: &[u8], periods: &[u64], loads: &[u64], spans: &[u64]) -> Outcome
-    requires { ⌜ InRange (columns (now queues) (now periods) (now loads)) × SpansInRange (length (now queues)) (now spans) ⌝ }
+    requires { ⌜ InRange (columns (now queues) (now periods) (now loads))
+        × SpansInRange (length (now queues)) (now spans) ⌝ }
     ensures { λ r.
         ⌜ r
-        ≡ outcomeOf (withSpans (columns (now (queues .entry)) (now (periods .entry)) (now (loads .entry))) (now (spans .entry))) ⌝ }
+        ≡ outcomeOf
+        (withSpans (columns (now (queues .entry)) (now (periods .entry)) (now (loads .entry))) (now (spans .entry))) ⌝ }
 {
     if queues.len() == 0 {
         return unnamed(numbers::NO_TASK);

@@ -27,8 +27,8 @@ pub enum Found {
     Nothing,
 }
 
-// A task. The wide fields stand first, so that an entry has no gaps. `due` is the deadline as the record has it, in ticks
-// from a release, 0 for the period; `deadline` is that of the last release.
+// A task. The wide fields stand first, so that an entry has no gaps. `due` is the deadline as the record has it, in
+// ticks from a release, 0 for the period; `deadline` is that of the last release.
 pub struct Task {
     pub deadline: u64,
     pub period: u32,

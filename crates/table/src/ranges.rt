@@ -2,7 +2,8 @@
 // it, as the definitions have it.
 ghost use mathlib.Core.Path.{_≡_};
 ghost use mathlib.Core.Bool.{_&&_};
-ghost use Rattle.table.specs.WellFormed.{within, dueInRange, taskInRange, semInRange, boardInRange, taskBefore, semBefore};
+ghost use Rattle.table.specs.WellFormed.{within, dueInRange, taskInRange, semInRange, boardInRange};
+ghost use Rattle.table.specs.WellFormed.{taskBefore, semBefore};
 use crate::Board;
 use crate::Sem;
 use crate::Task;

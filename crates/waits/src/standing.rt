@@ -128,7 +128,7 @@ fn own(t: Task, position: u8) -> Rank
     }
 }
 
-// The own standing of the task at a position, for who does not look at the entries else.
+// The own standing of the task at a position. It looks at the entries for its caller, who then need not copy them.
 fn own_at(tasks: [Task; 64], at: usize) -> Rank
     requires { ⌜ (at < 64) × (at < length tasks) ⌝ }
     ensures { λ r. ⌜ r ≡ ownRank (getD tasks at blankTask) at ⌝ }
