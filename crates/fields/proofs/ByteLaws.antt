@@ -195,11 +195,10 @@ all-replicate b [] h = refl
 all-replicate b (x ∷ xs) h = same-more b x xs (eqb x b) refl h (all-replicate b xs)
 
 -- bytes that are all zero are the number 0
-zeros-more : (x : ℕ) (xs : List ℕ) (t : Bool) → eqb x 0 ≡ t → (t && allAre 0 xs) ≡ true → (allAre 0 xs ≡ true → valueOf xs ≡ 0) → x + valueOf xs * 256 ≡ 0
-zeros-more x xs true e k rest = omega (arith, eqb-true x 0 e, rest k)
-zeros-more x xs false e k rest = let z : _≡_ {A = ℕ} 0 1 = cc in absurd (omega arith)
+value-none : (n : ℕ) → valueOf (replicate n 0) ≡ 0
+unfolding valueOf
+value-none zero = refl
+value-none (suc n) = omega (arith, value-none n)
 
 pub value-zeros : (l : List ℕ) → allAre 0 l ≡ true → valueOf l ≡ 0
-unfolding allAre valueOf
-value-zeros [] h = refl
-value-zeros (x ∷ xs) h = zeros-more x xs (eqb x 0) refl h (value-zeros xs)
+value-zeros l h = ap valueOf (all-replicate 0 l h) ∙ value-none (length l)

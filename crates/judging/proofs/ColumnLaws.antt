@@ -14,21 +14,15 @@ use Rattle.table.specs.declared.Task.{Task}
 use Rattle.table.specs.declared.Sem.{Sem}
 use Rattle.table.specs.Entries.{blankTask, spanOf}
 use Rattle.table.specs.WellFormed.{WellFormed, taskInRange}
-use Rattle.table.proofs.SumLaws.{every-at}
+use Rattle.table.proofs.SumLaws.{every-at, at-map}
 use Rattle.table.proofs.OrderLaws.{TaskRange, task-range, span-range}
 use Rattle.charges.specs.Charges.{loadOf}
 use Rattle.charges.proofs.ChargeLaws.{load-bound}
 use Rattle.judging.specs.declared.Columns.{Columns}
-use Rattle.judging.specs.Columns.{at, columns, columnsOf}
+use Rattle.judging.specs.Columns.{columns, columnsOf}
 use Rattle.judging.specs.Ranges.{InRange, SpansInRange}
 
 module _ {A : Type 0} where
-  -- an entry of a column
-  pub at-map : (f : A → ℕ) (l : List A) (j : ℕ) (d : A) → j < length l → at (map f l) j ≡ f (getD l j d)
-  at-map f [] j d h = absurd (not-suc-le-zero h)
-  at-map f (x ∷ xs) zero d h = refl
-  at-map f (x ∷ xs) (suc j) d h = at-map f xs j d (le-of-suc-le-suc h)
-
   -- one entry more
   pub column-more : (f : A → ℕ) (l : List A) (r : List ℕ) (i : ℕ) (d : A) → i < length l → i < length r → take i r ≡ map f (take i l)
       → take (i + 1) (set r i (f (getD l i d))) ≡ map f (take (i + 1) l)

@@ -21,9 +21,20 @@ withSpans c spans = record { queues = c .queues; periods = c .periods; loads = c
 
 -- the columns of the first n tasks
 abbrev pub firstTasks : ℕ → Columns → Columns
-firstTasks n c = withSpans (columns (take n (c .queues)) (take n (c .periods)) (take n (c .loads))) (take n (c .spans))
+firstTasks n c =
+    record {
+      queues = take n (c .queues);
+      periods = take n (c .periods);
+      loads = take n (c .loads);
+      spans = take n (c .spans);
+    }
 
 -- the columns of these tasks at these figures; the load is that of 01, "Charges", the span that of 02, a)
 unfoldable pub columnsOf : List Task → Board → Columns
 columnsOf tasks board =
-    withSpans (columns (map (λ t. t .queue) tasks) (map (λ t. t .period) tasks) (map (loadOf tasks board) tasks)) (map spanOf tasks)
+    record {
+      queues = map (λ t. t .queue) tasks;
+      periods = map (λ t. t .period) tasks;
+      loads = map (loadOf tasks board) tasks;
+      spans = map spanOf tasks;
+    }

@@ -30,7 +30,8 @@ fn late(queues: &[u8], periods: &[u64], loads: &[u64], spans: &[u64], queue: u8,
     ensures { λ r.
         ⌜ r
         ≡ late queue
-        (withSpans (columns (now (queues .entry)) (now (periods .entry)) (now (loads .entry))) (now (spans .entry))) i ⌝ }
+        (withSpans (columns (now (queues .entry)) (now (periods .entry)) (now (loads .entry))) (now (spans .entry)))
+        i ⌝ }
 {
     if queues[i] != queue {
         return false;

@@ -14,6 +14,7 @@ use borrow.Author.Tests.{lt-ltb, le-ltb, eq-eqb, ne-eqb}
 use Rattle.fields.specs.Fields.{readAt}
 use Rattle.lines.specs.Lines.{Put}
 use Rattle.lines.proofs.PutLaws.{put-none, put-more}
+use Rattle.table.proofs.SumLaws.{either-way}
 use Rattle.executive.specs.declared.state.State.{State}
 use Rattle.executive.specs.declared.calls.Moved.{Moved}
 use Rattle.executive.specs.States.{tasksOf, semsOf}
@@ -97,10 +98,6 @@ module _ (s : State) (script : List ℕ) (at : ℕ) where
 abbrev Kept : State → Moved → Type 0
 Kept s m = (m .answer ≡ 0 → ⊥) → (m .answer ≡ 90 → ⊥) → m .state ≡ s
 
-choose-kept : (b : Bool) (s : State) (x y : Moved) → Kept s x → Kept s y → Kept s (cond b x y)
-choose-kept true s x y h k = h
-choose-kept false s x y h k = k
-
 kept : (s : State) (m : Moved) → Same s m → Kept s m
 kept s m (inl e) n w = absurd (n e)
 kept s m (inr e) n w = e
@@ -110,13 +107,13 @@ unfolding calledBy moved
 refused-kept s script at =
     let x = getD script at 0 in
     let number = readAt 2 script (at + 2) in
-    choose-kept (eqb x 1) s _ _ (kept s _ (release-same s number (readAt 8 script (at + 8))))
-    (choose-kept (eqb x 2) s _ _ (kept s _ (signal-same s number))
-    (choose-kept (eqb x 3) s _ _ (kept s _ (withdraw-same s number))
-    (choose-kept (eqb x 4) s _ _ (λ n w. ⊎-elim (λ e. absurd (w e)) (λ e. kept s (acquireOf s number) e n w) (acquire-same s number))
-    (choose-kept (eqb x 5) s _ _ (kept s _ (give-same s number))
-    (choose-kept (eqb x 6) s _ _ (kept s _ (complete-same s))
-    (choose-kept (eqb x 7) s _ _ (kept s _ (block-same s)) (λ n w. refl)))))))
+    either-way (Kept s) (eqb x 1) _ _ (kept s _ (release-same s number (readAt 8 script (at + 8))))
+    (either-way (Kept s) (eqb x 2) _ _ (kept s _ (signal-same s number))
+    (either-way (Kept s) (eqb x 3) _ _ (kept s _ (withdraw-same s number))
+    (either-way (Kept s) (eqb x 4) _ _ (λ n w. ⊎-elim (λ e. absurd (w e)) (λ e. kept s (acquireOf s number) e n w) (acquire-same s number))
+    (either-way (Kept s) (eqb x 5) _ _ (kept s _ (give-same s number))
+    (either-way (Kept s) (eqb x 6) _ _ (kept s _ (complete-same s))
+    (either-way (Kept s) (eqb x 7) _ _ (kept s _ (block-same s)) (λ n w. refl)))))))
 
 -- the same of what a call handed back
 pub kept-by : (s : State) (script : List ℕ) (at : ℕ) (r : Moved) → r ≡ calledBy s script at → (((r .answer ≡ 0) ⊎ (r .answer ≡ 90)) → ⊥)

@@ -17,7 +17,7 @@ use Rattle.table.specs.declared.Status.the-variants.{Idle}
 use Rattle.table.specs.declared.Holder.the-variants.{Free}
 use Rattle.table.specs.Entries.{loadedTask, loadedSem}
 use Rattle.table.specs.WellFormed.{within, dueInRange, taskInRange, semInRange, boardInRange}
-use Rattle.table.proofs.SumLaws.{both, both-left, both-right}
+use Rattle.table.proofs.SumLaws.{both, both-left, both-right, either-way}
 use Rattle.table.proofs.OrderLaws.{within-true, task-range, due-most, board-range}
 use Rattle.fields.specs.Fields.{bytesOf, readAt, putAt, allAre}
 use Rattle.fields.proofs.ByteLaws.{read-back, valueOf-bytesOf, all-replicate, all-stop}
@@ -241,10 +241,6 @@ Plain (BoardRecord b) = Unit
 Plain (SemRecord s) = Unit
 Plain (Refused k) = (k ≡ 2) ⊎ (k ≡ 4)
 
-one-of : (b : Bool) (d e : Decoded) → Plain d → Plain e → Plain (cond b d e)
-one-of true d e p q = p
-one-of false d e p q = q
-
 pub plain : (r : List ℕ) → Plain (decoded r)
 unfolding decoded taskDecoded boardDecoded semDecoded unlessOutOfRange
 plain r =
@@ -252,11 +248,11 @@ plain r =
     let third = cond (kind 3) (semDecoded r) (Refused 2) in
     let second = cond (kind 2) (boardDecoded r) third in
     let first = cond (kind 1) (taskDecoded r) second in
-    let entry : (fits : Bool) (d : Decoded) → Plain d → Plain (cond fits d (Refused 4)) = λ fits d p. one-of fits d (Refused 4) p (inr refl) in
-    one-of (allAre 255 r) Erased first tt
-    (one-of (kind 1) (taskDecoded r) second (entry (taskInRange (taskIn r) && allAre 0 (drop 16 r)) (TaskRecord (taskIn r)) tt)
-    (one-of (kind 2) (boardDecoded r) third (entry (eqb (getD r 1 0) 0 && boardInRange (boardIn r) && allAre 0 (drop 20 r)) (BoardRecord (boardIn r)) tt)
-    (one-of (kind 3) (semDecoded r) (Refused 2) (entry (eqb (getD r 1 0) 0 && semInRange (semIn r) && allAre 0 (drop 4 r)) (SemRecord (semIn r)) tt) (inl refl))))
+    let entry : (fits : Bool) (d : Decoded) → Plain d → Plain (cond fits d (Refused 4)) = λ fits d p. either-way Plain fits d (Refused 4) p (inr refl) in
+    either-way Plain (allAre 255 r) Erased first tt
+    (either-way Plain (kind 1) (taskDecoded r) second (entry (taskInRange (taskIn r) && allAre 0 (drop 16 r)) (TaskRecord (taskIn r)) tt)
+    (either-way Plain (kind 2) (boardDecoded r) third (entry (eqb (getD r 1 0) 0 && boardInRange (boardIn r) && allAre 0 (drop 20 r)) (BoardRecord (boardIn r)) tt)
+    (either-way Plain (kind 3) (semDecoded r) (Refused 2) (entry (eqb (getD r 1 0) 0 && semInRange (semIn r) && allAre 0 (drop 4 r)) (SemRecord (semIn r)) tt) (inl refl))))
 
 -- every record has 32 bytes
 pub length-task : (t : Task) → length (encodeTask t) ≡ 32

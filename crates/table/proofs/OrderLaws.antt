@@ -42,13 +42,8 @@ unfolding within
 true-within least value most h k = both (leb least value) (leb value most) (le-leb least value h) (le-leb value most k)
 
 -- a deadline in its range: none, or an FP task's, with room for the cost and before the period's end
-pub record OwnDue (t : Task) : Type 0 where
-  pub fixed : t .queue ≡ 3
-  pub least : t .cost ≤ t .due
-  pub most : t .due < t .period
-
 abbrev pub DueRange : Task → Type 0
-DueRange t = (t .due ≡ 0) ⊎ OwnDue t
+DueRange t = (t .due ≡ 0) ⊎ ((t .queue ≡ 3) × (t .cost ≤ t .due) × (t .due < t .period))
 
 pub due-range : (t : Task) → dueInRange t ≡ true → DueRange t
 unfolding dueInRange
@@ -61,11 +56,11 @@ due-range t h = none (eqb (t .due) 0) refl h
         let c = leb (t .cost) (t .due) in
         let p = ltb (t .due) (t .period) in
         let qc = both-left (q && c) p h in
-        inr (record {
-          fixed = eqb-true (t .queue) 3 (both-left q c qc);
-          least = leb-true (t .cost) (t .due) (both-right q c qc);
-          most = ltb-true (t .due) (t .period) (both-right (q && c) p h);
-        })
+        inr (
+          eqb-true (t .queue) 3 (both-left q c qc),
+          leb-true (t .cost) (t .due) (both-right q c qc),
+          ltb-true (t .due) (t .period) (both-right (q && c) p h),
+        )
 
 pub due-in-range : (t : Task) → DueRange t → dueInRange t ≡ true
 unfolding dueInRange
@@ -75,7 +70,7 @@ due-in-range t (inr own) =
     let c = leb (t .cost) (t .due) in
     let p = ltb (t .due) (t .period) in
     either-right (eqb (t .due) 0) (q && c && p)
-    (both (q && c) p (both q c (eq-eqb (t .queue) 3 (own .fixed)) (le-leb (t .cost) (t .due) (own .least))) (lt-ltb (t .due) (t .period) (own .most)))
+    (both (q && c) p (both q c (eq-eqb (t .queue) 3 (own .0)) (le-leb (t .cost) (t .due) (own .1))) (lt-ltb (t .due) (t .period) (own .2)))
 
 -- a task in range, field by field
 pub record TaskRange (t : Task) : Type 0 where
@@ -122,7 +117,7 @@ due-most t r = by-case (r .due)
   where
     by-case : DueRange t → t .due ≤ t .period
     by-case (inl z) = omega arith
-    by-case (inr own) = omega (arith, own .most)
+    by-case (inr own) = omega (arith, own .2)
 
 pub span-range : (t : Task) → TaskRange t → (t .cost ≤ spanOf t) × (spanOf t ≤ t .period)
 unfolding spanOf
@@ -131,7 +126,7 @@ span-range t r = by-case (eqb (t .due) 0) refl (r .due)
     by-case : (z : Bool) → eqb (t .due) 0 ≡ z → DueRange t → (t .cost ≤ cond z (t .period) (t .due)) × (cond z (t .period) (t .due) ≤ t .period)
     by-case true e d = (r .costMost, omega arith)
     by-case false e (inl z) = absurd (eqb-false (t .due) 0 e z)
-    by-case false e (inr own) = (own .least, omega (arith, own .most))
+    by-case false e (inr own) = (own .1, omega (arith, own .2))
 
 -- zero means the period
 pub span-none : (t : Task) → t .due ≡ 0 → spanOf t ≡ t .period

@@ -33,6 +33,11 @@ pub either-right : (a b : Bool) → b ≡ true → (a || b) ≡ true
 either-right true b h = refl
 either-right false b h = h
 
+-- what is so of both is so of either
+pub either-way : {A : Type 0} (P : A → Type 0) (b : Bool) (x y : A) → P x → P y → P (cond b x y)
+either-way P true x y p q = p
+either-way P false x y p q = q
+
 -- a count's gate is at most 1
 gate-small : (b : Bool) → cond b 1 0 ≤ 1
 gate-small true = omega arith
@@ -122,6 +127,12 @@ module _ {A : Type 0} where
   none-any test (x ∷ xs) d h = rw (h 0 (omega arith)) (none-any test xs d (λ i k. h (suc i) (omega arith)))
 
 -- a test of what a function makes of the entries
+-- an entry of a list of numbers that was worked out entry by entry
+pub at-map : {A : Type 0} (f : A → ℕ) (l : List A) (j : ℕ) (d : A) → j < length l → getD (map f l) j 0 ≡ f (getD l j d)
+at-map f [] j d h = absurd (not-suc-le-zero h)
+at-map f (x ∷ xs) zero d h = refl
+at-map f (x ∷ xs) (suc j) d h = at-map f xs j d (le-of-suc-le-suc h)
+
 pub any-map : {A B : Type 0} (f : A → B) (test : B → Bool) (l : List A) → any test (map f l) ≡ any (λ x. test (f x)) l
 unfolding any
 any-map f test [] = refl

@@ -1,17 +1,14 @@
 -- The sentences of 02, a), shown: each statement of specs/Spans.antt under its name in lower case.
 -- Assumes nothing.
-use Prim.Native.Nat.{ℕ, zero, suc, _+_, _/_, _≤_, _<_}
+use Prim.Native.Nat.{ℕ, zero, suc, _+_, _/_}
 use mathlib.Core.Path.{_≡_, refl, sym, ap, subst, _∙_}
-use mathlib.Core.Logic.{_↔_, _⊎_, inl, inr}
 use mathlib.Core.Bool.{Bool, true, false, cond, not, _&&_, _||_}
-use mathlib.Core.List.{List, [], _∷_, _++_}
-use native.Mathlib.Omega.{arith}
+use mathlib.Core.List.{List, [], _∷_}
 use lib.Dec.{eqb}
 use lib.ListN.{length, getD, take, drop}
 use borrow.Author.Tests.{eq-eqb, eqb-true, eqb-false}
 use Rattle.fields.specs.Fields.{valueOf, readAt, allAre}
 use Rattle.fields.proofs.ByteLaws.{value-zeros}
-use Rattle.table.specs.declared.Board.{Board}
 use Rattle.table.specs.declared.Task.{Task}
 use Rattle.table.specs.declared.Status.the-variants.{Ready}
 use Rattle.table.specs.Entries.{blankTask, spanOf, withStatus, withDeadline}
@@ -20,27 +17,25 @@ use Rattle.table.specs.Sums.{every}
 use Rattle.table.specs.Places.{taskPlace}
 use Rattle.table.specs.WellFormed.{taskInRange, semInRange, boardInRange}
 use Rattle.table.specs.declared.Found.the-variants.{At}
-use Rattle.table.proofs.OrderLaws.{DueRange, span-range, span-none}
-use Rattle.table.proofs.SumLaws.{both, both-left, both-right, every-at, every-append}
+use Rattle.table.proofs.OrderLaws.{span-range, span-none}
+use Rattle.table.proofs.SumLaws.{both, both-left, both-right, either-way, every-append, at-map}
 use Rattle.waits.specs.Waits.{taskAt}
 use Rattle.waits.specs.Standing.{shownDeadline, ownOf}
-use Rattle.executive.specs.declared.state.State.{State}
 use Rattle.executive.specs.declared.calls.Moved.{Moved}
 use Rattle.executive.specs.States.{tasksOf, emptyState}
 use Rattle.executive.specs.Sound.{Sound}
-use Rattle.executive.specs.Calls.{withTask, withLast, busy, untimely, moved, releaseAt, releaseOf}
+use Rattle.executive.specs.Calls.{withLast, busy, untimely, moved, releaseAt, releaseOf}
 use Rattle.executive.specs.Tables.{Table, addTask, addSem, addBoard, stateOf}
 use Rattle.executive.proofs.CallLaws.{on-refused, on-done}
 use Rattle.executive.proofs.LookupLaws.{task-found}
-use Rattle.executive.proofs.SoundLaws.{tasks-length, ranges}
+use Rattle.executive.proofs.SoundLaws.{ranges}
 use Rattle.executive.proofs.TableLaws.{state-tasks}
 use Rattle.kept.proofs.KeepLaws.{task-set-same}
 use Rattle.records.specs.declared.Decoded.{Decoded}
 use Rattle.records.specs.declared.Decoded.the-variants.{Erased, TaskRecord, BoardRecord, SemRecord, Refused}
 use Rattle.records.specs.Records.{taskIn, boardIn, semIn, unlessOutOfRange, taskDecoded, boardDecoded, semDecoded, decoded}
 use Rattle.judging.specs.Columns.{at, columnsOf}
-use Rattle.judging.specs.Demands.{demandFP, TimeUpTo, TimeFP}
-use Rattle.judging.proofs.ColumnLaws.{at-map}
+use Rattle.judging.specs.Demands.{demandFP, TimeUpTo}
 use Rattle.image.specs.declared.load.Loaded.{Loaded}
 use Rattle.image.specs.Loading.{
   freshTable,
@@ -56,19 +51,14 @@ use Rattle.image.specs.Loading.{
   loadRecords,
   loadOf,
 }
-use Rattle.theorems.specs.Comes.{Comes}
-use Rattle.theorems.specs.Histories.{release, called}
+use Rattle.theorems.specs.Histories.{called}
 use Rattle.theorems.specs.Spans
 use Rattle.theorems.specs.Spans.{oldRecord}
 use Rattle.theorems.proofs.CaseLaws.{guard-rows}
 use Rattle.theorems.proofs.Shown.{comes-sound}
 
 pub due-fits : Spans.DueFits
-due-fits s h i below = told (ranges s (comes-sound s h) i below .due)
-  where
-    told : {t : Task} → DueRange t → (t .due ≡ 0) ⊎ ((t .queue ≡ 3) × (t .cost ≤ t .due) × (t .due < t .period))
-    told (inl none) = inl none
-    told (inr own) = inr (own .fixed, own .least, own .most)
+due-fits s h i below = ranges s (comes-sound s h) i below .due
 
 pub span-fits : Spans.SpanFits
 span-fits s h i below = span-range (taskAt (tasksOf s) i) (ranges s (comes-sound s h) i below)
@@ -130,7 +120,7 @@ NoDue tasks = every noDue tasks ≡ true
 -- one record more
 taken-old : (t : Table) (r : List ℕ) → NoDue (t .tasks) → oldRecord r ≡ true → NoDue ((taken t (decoded r)) .tasks)
 unfolding decoded taskDecoded boardDecoded semDecoded unlessOutOfRange taken addTask addSem addBoard oldRecord taskIn readAt valueOf every noDue NoDue
-taken-old t r h old = one-of (allAre 255 r) Erased (others (eqb (getD r 0 0) 1)) h (first (eqb (getD r 0 0) 1) old)
+taken-old t r h old = either-way After (allAre 255 r) Erased (others (eqb (getD r 0 0) 1)) h (first (eqb (getD r 0 0) 1) old)
   where
     After : Decoded → Type 0
     After d = NoDue ((taken t d) .tasks)
@@ -138,22 +128,18 @@ taken-old t r h old = one-of (allAre 255 r) Erased (others (eqb (getD r 0 0) 1))
     others : Bool → Decoded
     others task = cond task (taskDecoded r) (cond (eqb (getD r 0 0) 2) (boardDecoded r) (cond (eqb (getD r 0 0) 3) (semDecoded r) (Refused 2)))
 
-    one-of : (b : Bool) (d e : Decoded) → After d → After e → After (cond b d e)
-    one-of true d e p q = p
-    one-of false d e p q = q
-
     first : (task : Bool) → (not task || allAre 0 (take 4 (drop 12 r))) ≡ true → After (others task)
     first true zeros =
         let due : noDue (taskIn r) ≡ true = eq-eqb (valueOf (take 4 (drop 12 r))) 0 (value-zeros (take 4 (drop 12 r)) zeros) in
-        one-of (taskInRange (taskIn r) && allAre 0 (drop 16 r)) (TaskRecord (taskIn r)) (Refused 4)
+        either-way After (taskInRange (taskIn r) && allAre 0 (drop 16 r)) (TaskRecord (taskIn r)) (Refused 4)
         (every-append noDue (t .tasks) (taskIn r ∷ [])
         ∙ both (every noDue (t .tasks)) (every noDue (taskIn r ∷ [])) h (both (noDue (taskIn r)) true due refl))
         h
     first false zeros =
-        one-of (eqb (getD r 0 0) 2) (boardDecoded r) (cond (eqb (getD r 0 0) 3) (semDecoded r) (Refused 2))
-        (one-of (eqb (getD r 1 0) 0 && boardInRange (boardIn r) && allAre 0 (drop 20 r)) (BoardRecord (boardIn r)) (Refused 4) h h)
-        (one-of (eqb (getD r 0 0) 3) (semDecoded r) (Refused 2)
-        (one-of (eqb (getD r 1 0) 0 && semInRange (semIn r) && allAre 0 (drop 4 r)) (SemRecord (semIn r)) (Refused 4) h h) h)
+        either-way After (eqb (getD r 0 0) 2) (boardDecoded r) (cond (eqb (getD r 0 0) 3) (semDecoded r) (Refused 2))
+        (either-way After (eqb (getD r 1 0) 0 && boardInRange (boardIn r) && allAre 0 (drop 20 r)) (BoardRecord (boardIn r)) (Refused 4) h h)
+        (either-way After (eqb (getD r 0 0) 3) (semDecoded r) (Refused 2)
+        (either-way After (eqb (getD r 1 0) 0 && semInRange (semIn r) && allAre 0 (drop 4 r)) (SemRecord (semIn r)) (Refused 4) h h) h)
 
 -- what a load hands back, refused or not
 Old : Loaded → Type 0
@@ -161,11 +147,8 @@ Old l = NoDue (tasksOf (l .state))
 
 answered-old : (k at : ℕ) (done : Loaded) → Old done → Old (answered k (λ k. refusedLoad k at) done)
 unfolding answered Old
-answered-old k at done h = either (eqb k 0)
-  where
-    either : (b : Bool) → Old (cond b done (refusedLoad k at))
-    either true = h
-    either false = unfold refusedLoad emptyState tasksOf every NoDue in refl
+answered-old k at done h =
+    either-way Old (eqb k 0) done (refusedLoad k at) h (unfold refusedLoad emptyState tasksOf every NoDue in refl)
 
 loaded-old : (rest : List (List ℕ)) (t : Table) (erased : Bool) (at : ℕ) → NoDue (t .tasks) → every oldRecord rest ≡ true → Old (loadFrom t erased at rest)
 unfolding loadFrom finishedLoad acceptedLoad every Old

@@ -3,8 +3,7 @@
 use Prim.Native.Nat.{ℕ, zero, suc, _+_, _≤_, _<_}
 use mathlib.Core.Path.{_≡_, refl, sym, ap, subst, _∙_}
 use mathlib.Core.Bool.{Bool, true, false, cond, _&&_, _||_}
-use mathlib.Core.List.{List, [], _∷_, map}
-use native.Mathlib.Nat.{le-of-suc-le-suc, not-suc-le-zero}
+use mathlib.Core.List.{List, map}
 use native.Mathlib.Omega.{arith}
 use lib.Dec.{ltb, eqb}
 use lib.ListN.{length, take, getD, set, length-set, length-map}
@@ -17,14 +16,34 @@ use Rattle.table.specs.declared.Holder.the-variants.{Free, By}
 use Rattle.table.specs.declared.Found.{Found}
 use Rattle.table.specs.declared.Found.the-variants.{At, Nothing}
 use Rattle.table.specs.Entries.{blankTask, blankSem}
+use Rattle.table.proofs.SumLaws.{at-map}
 use Rattle.waits.specs.declared.scan.Goal.{Goal}
 use Rattle.waits.specs.declared.scan.Best.{Best}
 use Rattle.waits.specs.Waits.{taskAt, semAt, waitsFor, heldBy, waitsOn, Chained, Used}
 use Rattle.waits.specs.Standing.{foundAnd, ownOf, shownDeadline, better, preferred, bestAmong}
 use Rattle.waits.specs.Reaches.{Reaches}
-use Rattle.waits.specs.Scan.{walked, followed, takes, takenAt, holderLeads, ledBy, Linked, ledTo, onward, meets, metBy, semCode, metCode, noBest, asBest, isAhead, folded, winnerOf, bestFor, foldTo}
+use Rattle.waits.specs.Scan.{walked, followed, takes, takenAt, holderLeads, ledTo, onward, meets, metBy, semCode, metCode, noBest, asBest, isAhead, winnerOf, bestFor}
 use Rattle.waits.proofs.RankLaws.{best-is}
 use Rattle.waits.proofs.ChainLaws.{Long, waits-held, waits-none, chain, task-in, sem-in}
+
+-- where the holder of a semaphore leads, if it has one
+unfoldable pub ledBy : List Task → Goal → Found → ℕ
+ledBy tasks goal Nothing = 32
+ledBy tasks goal (At i) = holderLeads goal ((taskAt tasks i) .status) i
+
+-- a table of where each semaphore leads
+pub record Linked (tasks : List Task) (sems : List Sem) (goal : Goal) (link : List ℕ) : Type 0 where
+  pub long : length link ≡ 16
+  pub leads : (k : ℕ) → k < length sems → getD link k 0 ≡ ledBy tasks goal (heldBy ((semAt sems k) .holder))
+
+-- what the best so far becomes with the next task
+unfoldable pub folded : Best → Task → ℕ → ℕ → Best
+folded best t i met = cond (ltb met 64) best (cond (isAhead best t) (asBest t i met) best)
+
+-- the best so far over the first tasks, each with where the table leads it
+unfoldable pub foldTo : List Task → List ℕ → Goal → ℕ → Best
+foldTo tasks link goal zero = noBest
+foldTo tasks link goal (suc i) = folded (foldTo tasks link goal i) (taskAt tasks i) i (ledTo link goal ((taskAt tasks i) .status) i)
 
 -- one step along the table, and none from where no semaphore is
 pub walked-step : (steps : ℕ) (link : List ℕ) (at : ℕ) → at < 16 → walked (suc steps) link at ≡ walked steps link (getD link at 0)
@@ -111,13 +130,6 @@ led-free tasks sems m goal k h e =
 -- the table worked out from the entries, with no table made
 pub leadsOf : List Task → List Sem → Goal → List ℕ
 leadsOf tasks sems goal = map (λ s. ledBy tasks goal (heldBy (s .holder))) sems
-
-leads-at : (tasks : List Task) (sems : List Sem) (goal : Goal) (k : ℕ) → k < length sems
-    → getD (leadsOf tasks sems goal) k 0 ≡ ledBy tasks goal (heldBy ((getD sems k blankSem) .holder))
-unfolding leadsOf
-leads-at tasks [] goal k h = absurd (not-suc-le-zero h)
-leads-at tasks (s ∷ rest) goal zero h = refl
-leads-at tasks (s ∷ rest) goal (suc k) h = leads-at tasks rest goal k (le-of-suc-le-suc h)
 
 -- what holds of the entries that are in use
 module _ (tasks : List Task) (n : ℕ) (sems : List Sem) (m : ℕ) (used : Used tasks n sems m) where
@@ -407,7 +419,7 @@ module _ (tasks : List Task) (n : ℕ) (sems : List Sem) (m : ℕ) (used : Used 
         long = length-map sems (λ s. ledBy tasks goal (heldBy (s .holder))) ∙ z;
         leads =
             λ k h.
-            leads-at tasks sems goal k (omega arith)
+            at-map (λ s. ledBy tasks goal (heldBy (s .holder))) sems k blankSem (omega arith)
             ∙ ap (λ (s : Sem). ledBy tasks goal (heldBy (s .holder))) (sym (sem-in sems m k (omega arith)));
       }
 

@@ -22,10 +22,10 @@ use Rattle.waits.specs.Waits.{taskAt, semAt, waitsFor, heldBy, Chained}
 use Rattle.waits.specs.Standing.{foundAnd, foundOr, ownRank, ownOf, reaches, bestAmong, standingOf, isIdle, isReady, isEvent, isNone, readyAt, waiterAt, runningOf, heirOf, closesRing}
 use Rattle.waits.specs.Doing.{doingOf}
 use Rattle.waits.specs.Reaches.{Reaches}
-use Rattle.waits.specs.Scan.{takes, takenAt, onward, meets, metBy, semCode, metCode, winnerOf, bestFor, noBest, asBest, metFound, scanOf, walked, ledBy, Linked}
+use Rattle.waits.specs.Scan.{takes, takenAt, onward, meets, metBy, semCode, metCode, winnerOf, bestFor, noBest, asBest, metFound, scanOf, walked}
 use Rattle.waits.proofs.RankLaws.{better-total, own-once, IsBest, best-is, best-none, best-some, best-nothing, best-only, best-same}
 use Rattle.waits.proofs.ChainLaws.{Long, task-in, waits-held, waits-none, on-held, long-once, chain, reached-below, reaches-true, true-reaches}
-use Rattle.waits.proofs.ScanLaws.{meets-is, Apart, is-met, walked-step, walked-stays, walked-meets}
+use Rattle.waits.proofs.ScanLaws.{ledBy, Linked, meets-is, Apart, is-met, walked-step, walked-stays, walked-meets}
 
 -- something was found, or nothing
 pub some-found : (f : Found) → foundAnd (λ _. true) f ≡ true → (i : ℕ) × (f ≡ At i)

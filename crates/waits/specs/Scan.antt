@@ -1,7 +1,6 @@
 -- What the one scan over the tasks works out, and the look that may spare it. Nobody need believe anything of it: the contracts of running, heir,
 -- standing and closes_ring do not cite it.
-use Prim.Native.Nat.{ℕ, zero, suc, _+_, _-_, _≤_, _<_}
-use mathlib.Core.Path.{_≡_}
+use Prim.Native.Nat.{ℕ, zero, suc, _+_, _-_}
 use mathlib.Core.Bool.{Bool, true, cond, _&&_, _||_}
 use mathlib.Core.List.{List}
 use lib.Dec.{ltb, eqb}
@@ -9,16 +8,14 @@ use lib.ListN.{length, getD}
 use Rattle.table.specs.declared.Task.{Task}
 use Rattle.table.specs.declared.Sem.{Sem}
 use Rattle.table.specs.declared.Status.{Status}
-use Rattle.table.specs.declared.Holder.the-variants.{By}
 use Rattle.table.specs.declared.Found.{Found}
 use Rattle.table.specs.declared.Found.the-variants.{At, Nothing}
-use Rattle.table.specs.Entries.{blankSem}
 use Rattle.table.specs.Sums.{any}
 use Rattle.waits.specs.declared.scan.Goal.{Goal}
 use Rattle.waits.specs.declared.scan.Goal.the-variants.{Ready, Is, WaitsFor}
 use Rattle.waits.specs.declared.scan.Best.{Best}
 use Rattle.waits.specs.declared.standing.Alone.{Alone}
-use Rattle.waits.specs.Waits.{taskAt, semAt, waitsFor, heldBy, holderOf, waitsOn}
+use Rattle.waits.specs.Waits.{taskAt, waitsFor, holderOf, waitsOn}
 use Rattle.waits.specs.Standing.{foundAnd, ownOf, shownDeadline, bestAmong, isReady}
 
 -- a place in a byte: a semaphore's as it is, a task's that is met behind 64, 32 for nobody
@@ -59,15 +56,6 @@ metBy tasks sems goal j = meets tasks sems goal (suc (length sems)) j
 unfoldable pub holderLeads : Goal → Status → ℕ → ℕ
 holderLeads goal now i = cond (takes goal now i) (64 + i) (semCode (waitsFor now))
 
-unfoldable pub ledBy : List Task → Goal → Found → ℕ
-ledBy tasks goal Nothing = 32
-ledBy tasks goal (At i) = holderLeads goal ((taskAt tasks i) .status) i
-
--- a table of where each semaphore leads
-pub record Linked (tasks : List Task) (sems : List Sem) (goal : Goal) (link : List ℕ) : Type 0 where
-  pub long : length link ≡ 16
-  pub leads : (k : ℕ) → k < length sems → getD link k 0 ≡ ledBy tasks goal (heldBy ((semAt sems k) .holder))
-
 -- the table followed from a place on, so many steps at the most
 unfoldable pub walked : ℕ → List ℕ → ℕ → ℕ
 walked zero link at = at
@@ -91,14 +79,6 @@ asBest t i met = record { queue = t .queue; deadline = shownDeadline t; position
 
 unfoldable pub isAhead : Best → Task → Bool
 isAhead best t = ltb (t .queue) (best .queue) || (eqb (t .queue) (best .queue) && ltb (shownDeadline t) (best .deadline))
-
-unfoldable pub folded : Best → Task → ℕ → ℕ → Best
-folded best t i met = cond (ltb met 64) best (cond (isAhead best t) (asBest t i met) best)
-
--- the best so far over the first tasks, each with where the table leads it
-unfoldable pub foldTo : List Task → List ℕ → Goal → ℕ → Best
-foldTo tasks link goal zero = noBest
-foldTo tasks link goal (suc i) = folded (foldTo tasks link goal i) (taskAt tasks i) i (ledTo link goal ((taskAt tasks i) .status) i)
 
 -- the task of the best own standing whose chain meets the goal
 unfoldable pub winnerOf : List Task → List Sem → Goal → ℕ → Found

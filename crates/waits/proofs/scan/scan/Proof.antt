@@ -12,8 +12,12 @@ use borrow.Author.Needs.{needs}
 use Rattle.table.specs.Entries.{blankTask}
 use Rattle.waits.specs.declared.scan.Best.{Best}
 use Rattle.waits.specs.Waits.{taskAt, semAt, heldBy}
-use Rattle.waits.specs.Scan.{ledBy, Linked, foldTo, folded, asBest, ledTo}
+use Rattle.waits.specs.Scan.{asBest, ledTo}
 use Rattle.waits.proofs.ScanLaws.{
+  ledBy,
+  Linked,
+  folded,
+  foldTo,
   table-more,
   led-held,
   led-free,

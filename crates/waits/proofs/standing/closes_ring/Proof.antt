@@ -1,10 +1,10 @@
 -- `standing::closes_ring` meets its contract: the chain followed from the semaphore on comes to the caller exactly if a ring would close.
 -- Assumes nothing.
 use Prim.Native.Nat.{_<_}
-use mathlib.Core.Path.{_≡_, sym, ap, _∙_}
+use mathlib.Core.Path.{sym, ap, _∙_}
 use native.Mathlib.Omega.{arith}
 use lib.Dec.{leb}
-use lib.ListN.{take, getD}
+use lib.ListN.{take}
 use borrow.Author.Needs.{needs}
 use Rattle.waits.specs.declared.scan.Goal.the-variants.{Is}
 use Rattle.waits.proofs.ScanLaws.{
