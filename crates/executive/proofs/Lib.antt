@@ -4,3 +4,4 @@ pub mod SoundLaws
 pub mod CallLaws
 pub mod RunLaws
 pub mod TableLaws
+pub mod ReadingLaws

@@ -1,2 +1,3 @@
--- The laws of numbers in bytes, over the width, which the functions here and the crates above cite.
+-- The laws of numbers in bytes and of records one behind the other, over the width, which the functions here and the crates above cite.
 pub mod ByteLaws
+pub mod PartLaws

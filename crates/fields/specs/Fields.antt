@@ -1,9 +1,9 @@
 -- Little-endian numbers of any width in a list of bytes (01, "The image": "little-endian").
-use Prim.Native.Nat.{ℕ, zero, suc, _+_, _*_, _/_, _%_}
+use Prim.Native.Nat.{ℕ, zero, suc, _+_, _*_, _/_, _%_, _<_}
 use mathlib.Core.Bool.{Bool, true, _&&_}
 use mathlib.Core.List.{List, [], _∷_, _++_}
 use lib.Dec.{eqb}
-use lib.ListN.{take, drop}
+use lib.ListN.{length, getD, take, drop}
 
 -- the number that the bytes are, the first byte counting least
 unfoldable pub valueOf : List ℕ → ℕ
@@ -27,3 +27,7 @@ putAt width bytes at value = take at bytes ++ (bytesOf width value ++ drop (at +
 unfoldable pub allAre : ℕ → List ℕ → Bool
 allAre b [] = true
 allAre b (x ∷ xs) = eqb x b && allAre b xs
+
+-- what a lent slice of u8 holds
+abbrev pub Bytes : List ℕ → Type 0
+Bytes l = (i : ℕ) → i < length l → getD l i 0 < 256

@@ -1,2 +1,3 @@
--- What a reader must believe of numbers in bytes.
+-- What a reader must believe of numbers in bytes, and of records one behind the other.
 pub mod Fields
+pub mod Parts

@@ -9,8 +9,10 @@ use native.Mathlib.Nat.{sub-zero}
 use native.Mathlib.Omega.{arith}
 use lib.Dec.{eqb}
 use lib.ListN.{length, take, drop, set, replicate, length-map}
-use lib.Seq.{drop-drop, take-at}
+use lib.Seq.{take-at}
 use borrow.Author.Tests.{leb-false, eq-eqb, ne-eqb, lt-ltb, le-ltb}
+use Rattle.fields.specs.Parts.{partsOf}
+use Rattle.fields.proofs.PartLaws.{next-part}
 use Rattle.table.specs.declared.Task.{Task}
 use Rattle.table.specs.declared.Sem.{Sem}
 use Rattle.table.specs.declared.Board.{Board}
@@ -28,7 +30,8 @@ use Rattle.records.specs.declared.Decoded.{Decoded}
 use Rattle.records.specs.declared.Decoded.the-variants.{Erased, TaskRecord, BoardRecord, SemRecord, Refused}
 use Rattle.records.specs.Records.{decoded}
 use Rattle.image.specs.declared.load.Front.{Front}
-use Rattle.image.specs.Loading.{freshTable, taken, erasedAfter, refusalOf, usedAfter, refusedAs, orderBroken, numberTwice, tooMany, refusedLoad, finishedLoad, loadFrom, recordsIn, badLength, loadRecords, loadOf}
+use Rattle.executive.specs.Reading.{refusedLoad, finishedLoad}
+use Rattle.image.specs.Loading.{freshTable, taken, erasedAfter, refusalOf, usedAfter, refusedAs, orderBroken, numberTwice, tooMany, loadFrom, recordsIn, badLength, loadRecords, loadOf}
 use Rattle.image.specs.Fronts.{frontOf, frontAfter, frontRefusal}
 use Rattle.image.proofs.FrontLaws.{front-after, front-decides}
 
@@ -153,13 +156,9 @@ come-start image state figures front s b f =
 -- the record at a place, and those behind it
 next-record : (image : List ℕ) (at : ℕ) → length image % 32 ≡ 0 → at % 32 ≡ 0 → at < length image
     → recordsIn ((length image - at) / 32) (drop at image) ≡ take (at + 32 - at) (drop at image) ∷ recordsIn ((length image - (at + 32)) / 32) (drop (at + 32) image)
-unfolding recordsIn
 next-record image at h k l =
     let more : (length image - at) / 32 ≡ suc ((length image - (at + 32)) / 32) = omega arith in
-    let width : 32 ≡ at + 32 - at = omega arith in
-    ap (λ (n : ℕ). recordsIn n (drop at image)) more
-    ∙ (ap (λ (l : List ℕ). take 32 (drop at image) ∷ recordsIn ((length image - (at + 32)) / 32) l) (drop-drop 32 at image)
-    ∙ ap (λ (w : ℕ). take w (drop at image) ∷ recordsIn ((length image - (at + 32)) / 32) (drop (at + 32) image)) width)
+    ap (λ (n : ℕ). recordsIn n (drop at image)) more ∙ next-part 32 ((length image - (at + 32)) / 32) at image
 
 length-numbers : (tasks : List Task) → length tasks ≤ 64 → length (numbersOf tasks) ≡ 64
 length-numbers tasks h =
@@ -305,7 +304,7 @@ module _ {image : List ℕ} {state : State} {given : List ℕ} {front : Front} {
 -- at the end of the image the state so far is what is handed back
 pub come-end : {image : List ℕ} {state : State} {given : List ℕ} {front : Front} {at : ℕ} (c : Come image state given front at) → length image ≤ at
     → finishedLoad state (at / 32) ≡ loadRecords image
-unfolding loadFrom recordsIn
+unfolding loadFrom partsOf
 come-end {image} {state} {given} {front} {at} c h =
     let none : (length image - at) / 32 ≡ 0 = omega arith in
     let there : at / 32 ≡ c .place = omega (arith, c .here) in

@@ -20,32 +20,21 @@ use Rattle.table.proofs.RefusalLaws.{answered-refused, answered-done, firstOf-h
 use Rattle.executive.specs.declared.state.State.{State}
 use Rattle.executive.specs.Tables.{Table, addTask, addSem, addBoard, stateOf}
 use Rattle.executive.proofs.TableLaws.{same-table}
-use Rattle.fields.specs.Fields.{allAre}
+use Rattle.executive.proofs.ReadingLaws.{finished-some, accepted-end}
+use Rattle.fields.specs.Fields.{allAre, Bytes}
+use Rattle.fields.specs.Parts.{partsOf, flat}
 use Rattle.fields.proofs.ByteLaws.{all-replicate}
+use Rattle.fields.proofs.PartLaws.{nothing, flat-more, parts-flat}
 use Rattle.records.specs.declared.Decoded.{Decoded}
 use Rattle.records.specs.declared.Decoded.the-variants.{Erased, TaskRecord, BoardRecord, SemRecord, Refused}
-use Rattle.records.specs.Records.{Bytes, decoded, encodeTask, encodeBoard, encodeSem}
+use Rattle.records.specs.Records.{decoded, encodeTask, encodeBoard, encodeSem}
 use Rattle.records.proofs.RecordLaws.{Said, erased, task, board, sem, unknown, bad, said, decoded-task, decoded-board, decoded-sem, decoded-erased, length-task, length-board, length-sem}
-use Rattle.image.specs.declared.load.Loaded.{Loaded}
-use Rattle.image.specs.Loading.{freshTable, taken, erasedAfter, refusalOf, usedAfter, refusedAs, orderBroken, numberTwice, tooMany, refusedLoad, acceptedLoad, finishedLoad, loadFrom, recordsIn}
-use Rattle.image.specs.Writing.{flat, encoded}
+use Rattle.executive.specs.declared.loaded.Loaded.{Loaded}
+use Rattle.executive.specs.Reading.{refusedLoad, acceptedLoad, finishedLoad}
+use Rattle.image.specs.Loading.{freshTable, taken, erasedAfter, refusalOf, usedAfter, refusedAs, orderBroken, numberTwice, tooMany, loadFrom, recordsIn}
+use Rattle.image.specs.Writing.{encoded}
 use Rattle.image.proofs.LoadLaws.{load-go, load-stop, Passed, passed, passes}
-use Rattle.image.proofs.WriteLaws.{nothing, flat-more}
 use Rattle.image.proofs.GrowLaws.{Listed, Next, listed-at, used-before, Growing, grow, task-passed, board-passed}
-
--- the records of entries, encoded one behind the other
-pub records-flat : {A : Type 0} (encode : A → List ℕ) → ((x : A) → length (encode x) ≡ 32) → (xs : List A) (more : ℕ) (tail : List ℕ)
-    → recordsIn (length xs + more) (flat encode xs ++ tail) ≡ map encode xs ++ recordsIn more tail
-unfolding recordsIn flat
-records-flat encode wide [] more tail = ap (λ (k : ℕ). recordsIn k tail) (zero-add more)
-records-flat encode wide (x ∷ xs) more tail =
-    let bytes = (encode x ++ flat encode xs) ++ tail in
-    let split : bytes ≡ encode x ++ (flat encode xs ++ tail) = append-assoc (encode x) (flat encode xs) tail in
-    let here : take 32 bytes ≡ encode x = ap (take 32) split ∙ take-at (encode x) (flat encode xs ++ tail) 32 (wide x) in
-    let rest : drop 32 bytes ≡ flat encode xs ++ tail = ap (drop 32) split ∙ drop-at (encode x) (flat encode xs ++ tail) 32 (wide x) in
-    ap (λ (k : ℕ). recordsIn k bytes) (suc-add (length xs) more)
-    ∙ (ap (λ (r : List ℕ). r ∷ recordsIn (length xs + more) (drop 32 bytes)) here
-    ∙ (ap (λ (l : List ℕ). encode x ∷ recordsIn (length xs + more) l) rest ∙ ap (λ (l : List (List ℕ)). encode x ∷ l) (records-flat encode wide xs more tail)))
 
 -- one record more, of which is known what it says and that it passes
 load-on : (t : Table) (e : Bool) (place : ℕ) (r : List ℕ) (d : Decoded) (rest : List (List ℕ)) → decoded r ≡ d → Passed e t d
@@ -173,19 +162,6 @@ module _ (goal : Table) (well : Growing goal) where
       let second = both-in (taken freshTable (BoardRecord b)) 1 (record { tasks = refl; sems = refl; board = refl; present = sym e }) rest in
       record { table = second .table; so = second .so; place = second .place; goes = first ∙ second .goes }
 
--- the end of the records: a table with a task is accepted, and only such a one is
-pub finished-some : (s : State) (place : ℕ) → 1 ≤ s .n → finishedLoad s place ≡ acceptedLoad s
-unfolding finishedLoad
-finished-some s place h =
-    answered-done (firstOf ((7, eqb (s .n) 0) ∷ [])) (λ k. refusedLoad k place) (acceptedLoad s)
-    (firstOf-past 7 (eqb (s .n) 0) [] (ne-eqb (s .n) 0 (λ e. omega arith)) ∙ firstOf-none)
-
-pub finished-none : (s : State) (place : ℕ) → s .n ≡ 0 → finishedLoad s place ≡ refusedLoad 7 place
-unfolding finishedLoad
-finished-none s place h =
-    ap (λ (k : ℕ). answered k (λ k. refusedLoad k place) (acceptedLoad s)) (firstOf-here 7 (eqb (s .n) 0) [] (eq-eqb (s .n) 0 h))
-    ∙ answered-refused 7 (λ k. refusedLoad k place) (acceptedLoad s) (λ e. omega arith)
-
 -- so many bytes 255
 abbrev pub erasedBytes : ℕ → List ℕ
 erasedBytes n = replicate n 255
@@ -202,7 +178,7 @@ erased-step t e place rest =
 
 -- erased records at the end change nothing
 erased-in : (k : ℕ) (t : Table) (e : Bool) (place : ℕ) → 1 ≤ length (t .tasks) → loadFrom t e place (recordsIn k (erasedBytes (32 * k))) ≡ acceptedLoad (stateOf t)
-unfolding recordsIn loadFrom stateOf
+unfolding partsOf loadFrom stateOf
 erased-in zero t e place h = finished-some (stateOf t) place h
 erased-in (suc k) t e place h =
     let bytes = erasedBytes (32 * suc k) in
@@ -214,7 +190,7 @@ erased-in (suc k) t e place h =
 
 one-record : (b : Board) (k : ℕ) (l : List ℕ) → recordsIn (1 + k) ((encodeBoard b ++ []) ++ l) ≡ encodeBoard b ∷ recordsIn k l
 unfolding flat
-one-record b k l = records-flat encodeBoard length-board (b ∷ []) k l
+one-record b k l = parts-flat encodeBoard 32 length-board (b ∷ []) k l
 
 -- the whole answer for the image of a table that may be loaded, whose entries are as after loading
 pub replayed : (goal : Table) → Growing goal → 1 ≤ length (goal .tasks) → (e count : ℕ)
@@ -229,8 +205,8 @@ replayed goal well some e count n =
     let back = length (goal .sems) + e in
     let reached = all-in goal well (goal .present) refl (recordsIn e tail) in
     let entries : recordsIn (length (goal .tasks) + back) (ts ++ (ss ++ tail)) ≡ map encodeTask (goal .tasks) ++ (map encodeSem (goal .sems) ++ recordsIn e tail) =
-    records-flat encodeTask length-task (goal .tasks) back (ss ++ tail)
-    ∙ ap (λ (l : List (List ℕ)). map encodeTask (goal .tasks) ++ l) (records-flat encodeSem length-sem (goal .sems) e tail) in
+    parts-flat encodeTask 32 length-task (goal .tasks) back (ss ++ tail)
+    ∙ ap (λ (l : List (List ℕ)). map encodeTask (goal .tasks) ++ l) (parts-flat encodeSem 32 length-sem (goal .sems) e tail) in
     let split : recordsIn count (encoded goal ++ tail)
     ≡ cond (goal .present) (encodeBoard b ∷ []) [] ++ (map encodeTask (goal .tasks) ++ (map encodeSem (goal .sems) ++ recordsIn e tail)) =
     ap (λ (k : ℕ). recordsIn k (encoded goal ++ tail)) n
@@ -258,17 +234,6 @@ accepted-record t e place r rest h = go (eqb (refusalOf e t (decoded r)) 0) refl
     go : (b : Bool) → eqb (refusalOf e t (decoded r)) 0 ≡ b → refusalOf e t (decoded r) ≡ 0
     go true z = eqb-true (refusalOf e t (decoded r)) 0 z
     go false z = sym (ap (λ (l : Loaded). l .number) (load-stop t e place r rest (eqb-false (refusalOf e t (decoded r)) 0 z))) ∙ h
-
--- an accepted end has a task
-accepted-end : (s : State) (place : ℕ) → (finishedLoad s place) .number ≡ 0 → 1 ≤ s .n
-unfolding refusedLoad
-accepted-end s place h = go (eqb (s .n) 0) refl
-  where
-    go : (b : Bool) → eqb (s .n) 0 ≡ b → 1 ≤ s .n
-    go true e =
-        let seven : _≡_ {A = ℕ} 7 0 = sym (ap (λ (l : Loaded). l .number) (finished-none s place (eqb-true (s .n) 0 e))) ∙ h in
-        absurd (omega arith)
-    go false e = let some : s .n ≡ 0 → ⊥ = eqb-false (s .n) 0 e in omega arith
 
 -- the first record of some bytes, and those behind it
 front-bytes : (k : ℕ) (l : List ℕ) → length l ≡ 32 * suc k → Bytes l → (length (take 32 l) ≡ 32) × (Bytes (take 32 l)) × (length (drop 32 l) ≡ 32 * k) × (Bytes (drop 32 l))
@@ -325,7 +290,7 @@ module _ (k : ℕ) (l : List ℕ) (t : Table) (place : ℕ) where
 
 rest-of : (k : ℕ) (l : List ℕ) (t : Table) (place : ℕ) → length l ≡ 32 * k → Bytes l
     → (loadFrom t true place (recordsIn k l)) .number ≡ 0 → Rest t k l (loadFrom t true place (recordsIn k l))
-unfolding recordsIn loadFrom stateOf
+unfolding partsOf loadFrom stateOf
 rest-of zero l t place n bytes h =
     let some = accepted-end (stateOf t) place h in record { some = some; bytes = nothing l n; same = finished-some (stateOf t) place some }
 rest-of (suc k) l t place n bytes h =
@@ -428,7 +393,7 @@ module _ (k : ℕ) (l : List ℕ) (t : Table) (place : ℕ) where
 
 pub ended-of : (k : ℕ) (l : List ℕ) (t : Table) (place : ℕ) → Growing t → length l ≡ 32 * k → Bytes l
     → (loadFrom t false place (recordsIn k l)) .number ≡ 0 → Ended t l (loadFrom t false place (recordsIn k l))
-unfolding recordsIn loadFrom stateOf
+unfolding partsOf loadFrom stateOf
 ended-of zero l t place g n bytes h =
     let some = accepted-end (stateOf t) place h in
     record {

@@ -23,15 +23,20 @@ use Rattle.executive.specs.States.{emptyState}
 use Rattle.executive.specs.Sound.{Sound}
 use Rattle.executive.specs.Tables.{Table, WellFormedTable, loadedTable, stateOf, tableOf, asLoaded}
 use Rattle.executive.proofs.TableLaws.{state-table, loaded-well, loaded-again, as-loaded, state-sound, empty-sound}
-use Rattle.records.specs.Records.{Bytes, decoded, encodeTask, encodeBoard, encodeSem}
-use Rattle.image.specs.declared.load.Loaded.{Loaded}
-use Rattle.image.specs.Loading.{freshTable, taken, erasedAfter, refusalOf, refusedLoad, acceptedLoad, finishedLoad, loadFrom, recordsIn, badLength, loadRecords, loadOf}
-use Rattle.image.specs.Writing.{flat, encoded, badBuffer, writeNumber, written}
+use Rattle.executive.proofs.ReadingLaws.{finished-none, finished-some}
+use Rattle.fields.specs.Fields.{Bytes}
+use Rattle.fields.specs.Parts.{flat}
+use Rattle.fields.proofs.PartLaws.{flat-map}
+use Rattle.records.specs.Records.{decoded, encodeTask, encodeBoard, encodeSem}
+use Rattle.executive.specs.declared.loaded.Loaded.{Loaded}
+use Rattle.executive.specs.Reading.{refusedLoad, acceptedLoad, finishedLoad}
+use Rattle.image.specs.Loading.{freshTable, taken, erasedAfter, refusalOf, loadFrom, recordsIn, badLength, loadRecords, loadOf}
+use Rattle.image.specs.Writing.{encoded, badBuffer, writeNumber, written}
 use Rattle.image.specs.Accepted.{Accepted}
 use Rattle.image.proofs.LoadLaws.{load-bad, load-good, load-stop, load-go, length-right}
 use Rattle.image.proofs.WriteLaws.{length-table, write-good, buffer-right}
 use Rattle.image.proofs.GrowLaws.{growing-start, growing-well, growing-loaded, well-growing}
-use Rattle.image.proofs.ReplayLaws.{erasedBytes, replayed, Ended, ended-of, finished-none, finished-some}
+use Rattle.image.proofs.ReplayLaws.{erasedBytes, replayed, Ended, ended-of}
 
 -- a length that is not bad
 length-good : (bytes : ℕ) → badLength bytes ≡ false → (bytes % 32 ≡ 0) × (bytes ≤ 4096)
@@ -77,18 +82,12 @@ length-image t e =
     omega arith
 
 -- the bytes of a table do not tell what its tasks do and who holds its semaphores
-flat-map : {A : Type 0} (f : A → A) (encode : A → List ℕ) → ((x : A) → encode (f x) ≡ encode x) → (l : List A) → flat encode (map f l) ≡ flat encode l
-unfolding flat
-flat-map f encode same [] = refl
-flat-map f encode same (x ∷ xs) =
-    ap (λ (m : List ℕ). m ++ flat encode (map f xs)) (same x) ∙ ap (λ (m : List ℕ). encode x ++ m) (flat-map f encode same xs)
-
 loaded-bytes : (t : Table) → encoded (loadedTable t) ≡ encoded t
 unfolding encoded loadedTable encodeTask encodeSem
 loaded-bytes t =
     let b = cond (t .present) (encodeBoard (t .board)) [] in
-    ap (λ (m : List ℕ). b ++ (m ++ flat encodeSem (map loadedSem (t .sems)))) (flat-map loadedTask encodeTask (λ x. refl) (t .tasks))
-    ∙ ap (λ (m : List ℕ). b ++ (flat encodeTask (t .tasks) ++ m)) (flat-map loadedSem encodeSem (λ x. refl) (t .sems))
+    ap (λ (m : List ℕ). b ++ (m ++ flat encodeSem (map loadedSem (t .sems)))) (flat-map encodeTask loadedTask (λ x. refl) (t .tasks))
+    ∙ ap (λ (m : List ℕ). b ++ (flat encodeTask (t .tasks) ++ m)) (flat-map encodeSem loadedSem (λ x. refl) (t .sems))
 
 -- the encoding of a well-formed table, with erased records behind it, loads to that table
 encoded-loads : (t : Table) → WellFormedTable t → (e : ℕ) → length (encoded t ++ erasedBytes (32 * e)) ≤ 4096

@@ -12,6 +12,8 @@ use lib.ListN.{length, getD, take, drop, replicate, length-append, length-drop, 
 use lib.Seq.{drop-drop, drop-length, take-all, take-at, drop-at, take-suc, length-take-le, getD-take, getD-append-add}
 use borrow.Author.Tests.{eq-eqb, ne-eqb, lt-ltb, le-ltb}
 use borrow.Rule.Slice.PartMut.{putMid}
+use Rattle.fields.specs.Parts.{flat}
+use Rattle.fields.proofs.PartLaws.{part-put, flat-append, length-flat, put-more}
 use Rattle.table.specs.declared.Board.{Board}
 use Rattle.table.specs.declared.Sem.{Sem}
 use Rattle.table.specs.declared.Task.{Task}
@@ -23,54 +25,7 @@ use Rattle.executive.specs.Tables.{Table, tableOf}
 use Rattle.records.specs.Records.{encodeTask, encodeBoard, encodeSem}
 use Rattle.records.proofs.RecordLaws.{length-task, length-board, length-sem}
 use Rattle.image.specs.Loading.{badLength}
-use Rattle.image.specs.Writing.{flat, encoded, badBuffer, writeNumber, written}
-
--- a list of length 0 has no element
-pub nothing : {A : Type 0} (l : List A) → length l ≡ 0 → l ≡ []
-nothing [] h = refl
-nothing (x ∷ xs) h = absurd (omega arith)
-
--- a part that is put behind what is done already
-pub part-put : (done r l : List ℕ) (at e : ℕ) → length done ≡ at → at ≤ e → putMid at (e - at) (done ++ drop at l) r ≡ (done ++ r) ++ drop e l
-part-put done r l at e n h =
-    let before : take at (done ++ drop at l) ≡ done = take-at done (drop at l) at n in
-    let width : at + (e - at) ≡ e = omega arith in
-    let behind : drop (e - at) (drop at (done ++ drop at l)) ≡ drop e l =
-    ap (drop (e - at)) (drop-at done (drop at l) at n) ∙ (drop-drop (e - at) at l ∙ ap (λ (k : ℕ). drop k l) width) in
-    ap (λ (p : List ℕ). p ++ (r ++ drop (e - at) (drop at (done ++ drop at l)))) before
-    ∙ (ap (λ (q : List ℕ). done ++ (r ++ q)) behind ∙ sym (append-assoc done r (drop e l)))
-
-module _ {A : Type 0} (encode : A → List ℕ) where
-  pub flat-append : (xs ys : List A) → flat encode (xs ++ ys) ≡ flat encode xs ++ flat encode ys
-  unfolding flat
-  flat-append [] ys = refl
-  flat-append (x ∷ xs) ys = ap (λ (l : List ℕ). encode x ++ l) (flat-append xs ys) ∙ sym (append-assoc (encode x) (flat encode xs) (flat encode ys))
-
-  -- one entry more
-  pub flat-more : (xs : List A) (x : A) → flat encode (xs ++ x ∷ []) ≡ flat encode xs ++ encode x
-  unfolding flat
-  flat-more xs x = flat-append xs (x ∷ []) ∙ ap (λ (l : List ℕ). flat encode xs ++ l) (append-nil (encode x))
-
-  module _ (wide : (x : A) → length (encode x) ≡ 32) where
-    pub length-flat : (xs : List A) → length (flat encode xs) ≡ 32 * length xs
-    unfolding flat
-    length-flat [] = refl
-    length-flat (x ∷ xs) =
-        length-append (encode x) (flat encode xs) ∙ (ap (λ (k : ℕ). k + length (flat encode xs)) (wide x) ∙ omega (arith, length-flat xs))
-
-    -- the record of the entry at i is put behind those of the entries before it
-    pub put-more : (l : List A) (d : A) (whole part r : List ℕ) (i : ℕ) → i < length l → part ≡ flat encode (take i l) ++ drop (i * 32) whole
-        → r ≡ encode (getD l i d)
-        → putMid (i * 32) (i * 32 + 32 - i * 32) part r ≡ flat encode (take (i + 1) l) ++ drop ((i + 1) * 32) whole
-    put-more l d whole part r i h e k =
-        let n : length (flat encode (take i l)) ≡ i * 32 = length-flat (take i l) ∙ (ap (λ (j : ℕ). 32 * j) (length-take-le i l (omega arith)) ∙ omega arith) in
-        let next : take (i + 1) l ≡ take i l ++ getD l i d ∷ [] = ap (λ (j : ℕ). take j l) (add-one i) ∙ take-suc l i d h in
-        let at : i * 32 + 32 ≡ (i + 1) * 32 = omega arith in
-        ap (λ (p : List ℕ). putMid (i * 32) (i * 32 + 32 - i * 32) p r) e
-        ∙ (part-put (flat encode (take i l)) r whole (i * 32) (i * 32 + 32) n (omega arith)
-        ∙ (ap (λ (q : List ℕ). (flat encode (take i l) ++ q) ++ drop (i * 32 + 32) whole) k
-        ∙ (ap (λ (j : ℕ). (flat encode (take i l) ++ encode (getD l i d)) ++ drop j whole) at
-        ∙ ap (λ (q : List ℕ). q ++ drop ((i + 1) * 32) whole) (sym (ap (flat encode) next ∙ flat-more (take i l) (getD l i d))))))
+use Rattle.image.specs.Writing.{encoded, badBuffer, writeNumber, written}
 
 -- the records behind the board's: the tasks, then the semaphores, as one list
 pub data Entry : Type 0 where
@@ -142,7 +97,7 @@ module _ (s : State) (z : Sized s) where
   module _ (whole : List ℕ) (long : length whole ≡ 32 * (s .n + s .m)) (part : List ℕ) (i : ℕ) (w : Written s whole part i) where
     pub written-long : length part ≡ 32 * (s .n + s .m)
     written-long =
-        let n = length-flat encodeEntry length-entry (take i (entriesOf s)) in
+        let n = length-flat encodeEntry 32 length-entry (take i (entriesOf s)) in
         let m = length-take-le i (entriesOf s) (omega (arith, count-entries, w .inside)) in
         ap length (w .bytes) ∙ (length-append (flat encodeEntry (take i (entriesOf s))) (drop (i * 32) whole) ∙ omega (arith, length-drop (i * 32) whole, w .inside))
 
@@ -163,9 +118,12 @@ module _ (s : State) (z : Sized s) where
       pub written-more : (d : Entry) (r : List ℕ) → r ≡ encodeEntry (getD (entriesOf s) i d)
           → Written s whole (putMid (i * 32) (i * 32 + 32 - i * 32) part r) (i + 1)
       written-more d r e =
+          let next : i * 32 + 32 ≡ (i + 1) * 32 = omega arith in
           record {
             inside = omega arith;
-            bytes = put-more encodeEntry length-entry (entriesOf s) d whole part r i (omega (arith, count-entries)) (w .bytes) e;
+            bytes =
+                put-more encodeEntry 32 length-entry (entriesOf s) d whole part r i (i * 32) (omega (arith, count-entries)) (omega arith) (w .bytes) e
+                ∙ ap (λ (k : ℕ). flat encodeEntry (take (i + 1) (entriesOf s)) ++ drop k whole) next;
           }
 
 -- the board record has 32 bytes, or none
@@ -183,8 +141,8 @@ length-table t =
     let one = length-append b (ts ++ ss) in
     let two = length-append ts ss in
     let three = length-board-part (t .present) (t .board) in
-    let four = length-flat encodeTask length-task (t .tasks) in
-    let five = length-flat encodeSem length-sem (t .sems) in
+    let four = length-flat encodeTask 32 length-task (t .tasks) in
+    let five = length-flat encodeSem 32 length-sem (t .sems) in
     omega arith
 
 pub length-encoded : (s : State) → Sized s → length (encoded (tableOf s)) ≡ cond (s .present) 32 0 + (s .n + s .m) * 32

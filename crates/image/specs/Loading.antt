@@ -1,19 +1,19 @@
 -- Loading: the records from the front, each with the table so far (01, "The image" and "Numbers that come back").
-use Prim.Native.Nat.{ℕ, zero, suc, _/_, _%_}
+use Prim.Native.Nat.{ℕ, suc, _/_, _%_}
 use mathlib.Core.Bool.{Bool, true, false, not, _||_}
 use mathlib.Core.List.{List, [], _∷_}
 use lib.Dec.{eqb, leb, ltb}
-use lib.ListN.{length, take, drop}
+use lib.ListN.{length}
+use Rattle.fields.specs.Parts.{partsOf}
 use Rattle.table.specs.Entries.{builtIn}
 use Rattle.table.specs.Refusals.{firstOf, answered}
 use Rattle.table.specs.WellFormed.{taskBefore, semBefore, used}
-use Rattle.executive.specs.declared.state.State.{State}
-use Rattle.executive.specs.States.{emptyState}
+use Rattle.executive.specs.declared.loaded.Loaded.{Loaded}
+use Rattle.executive.specs.Reading.{refusedLoad, finishedLoad}
 use Rattle.executive.specs.Tables.{Table, addTask, addSem, addBoard, stateOf}
 use Rattle.records.specs.declared.Decoded.{Decoded}
 use Rattle.records.specs.declared.Decoded.the-variants.{Erased, TaskRecord, BoardRecord, SemRecord, Refused}
 use Rattle.records.specs.Records.{decoded}
-use Rattle.image.specs.declared.load.Loaded.{Loaded}
 
 -- 01, "The image": before the first record. The built-in figures hold if there is no board record
 unfoldable pub freshTable : Table
@@ -87,18 +87,6 @@ refusalOf erased t d =
     firstOf
     ((3, usedAfter erased d) ∷ (2, refusedAs 2 d) ∷ (4, refusedAs 4 d) ∷ (5, orderBroken t d) ∷ (8, numberTwice t d) ∷ (6, tooMany t d) ∷ [])
 
--- 01, "Numbers that come back": a refused load hands back the empty state
-unfoldable pub refusedLoad : ℕ → ℕ → Loaded
-refusedLoad k at = record { state = emptyState; number = k; place = at }
-
--- place is 0 for 0
-unfoldable pub acceptedLoad : State → Loaded
-acceptedLoad s = record { state = s; number = 0; place = 0 }
-
--- at the end of the records: 7, with the count of all records
-unfoldable pub finishedLoad : State → ℕ → Loaded
-finishedLoad s count = answered (firstOf ((7, eqb (s .n) 0) ∷ [])) (λ k. refusedLoad k count) (acceptedLoad s)
-
 -- the records from the front, each at its place
 unfoldable pub loadFrom : Table → Bool → ℕ → List (List ℕ) → Loaded
 loadFrom t erased at [] = finishedLoad (stateOf t) at
@@ -107,9 +95,8 @@ loadFrom t erased at (r ∷ rest) =
     (loadFrom (taken t (decoded r)) (erasedAfter erased (decoded r)) (suc at) rest)
 
 -- the records of 32 bytes, as many as there are
-unfoldable pub recordsIn : ℕ → List ℕ → List (List ℕ)
-recordsIn zero bytes = []
-recordsIn (suc count) bytes = take 32 bytes ∷ recordsIn count (drop 32 bytes)
+abbrev pub recordsIn : ℕ → List ℕ → List (List ℕ)
+recordsIn = partsOf 32
 
 -- 1: image length not a multiple of 32, or above 4,096
 unfoldable pub badLength : ℕ → Bool

@@ -4,16 +4,12 @@ use mathlib.Core.Bool.{Bool, cond, _||_}
 use mathlib.Core.List.{List, [], _∷_, _++_}
 use lib.Dec.{eqb, ltb}
 use lib.ListN.{length, replicate}
+use Rattle.fields.specs.Parts.{flat}
 use Rattle.table.specs.Refusals.{firstOf, answered}
 use Rattle.executive.specs.declared.state.State.{State}
 use Rattle.executive.specs.Tables.{Table, tableOf}
 use Rattle.records.specs.Records.{encodeTask, encodeBoard, encodeSem}
 use Rattle.image.specs.Loading.{badLength}
-
--- the records of a list of entries, one behind the other
-unfoldable pub flat : {A : Type 0} → (A → List ℕ) → List A → List ℕ
-flat encode [] = []
-flat encode (x ∷ xs) = encode x ++ flat encode xs
 
 -- 01, "The image", order: the board record, if one was there; then the tasks; then the semaphores
 unfoldable pub encoded : Table → List ℕ

@@ -6,8 +6,9 @@ ghost use lib.Dec.{eqb};
 ghost use lib.ListN.{length};
 ghost use Rattle.table.specs.Sums.{any};
 ghost use Rattle.table.specs.WellFormed.{taskBefore};
-ghost use Rattle.image.specs.Loading.{loadOf, loadRecords, refusedLoad, finishedLoad, freshTable};
+ghost use Rattle.image.specs.Loading.{loadOf, loadRecords, freshTable};
 ghost use Rattle.image.specs.Fronts.{frontOf, frontAfter, frontRefusal};
+use executive::loaded::Loaded;
 use executive::state::State;
 use records::Decoded;
 use table::Board;
@@ -16,13 +17,6 @@ use table::Task;
 use table::limits;
 use table::numbers;
 use table::ranges;
-
-// What loading hands back: the state, the number, and the place of the record that was refused.
-pub struct Loaded {
-    pub state: State,
-    pub number: u8,
-    pub place: usize,
-}
 
 // What of the records so far decides on the next: the last entries, how many there are, whether a board record was
 // there, and an erased one.
@@ -40,22 +34,12 @@ pub fn load(image: &[u8]) -> Loaded
 {
     let length = image.len();
     if length % limits::RECORD != 0 {
-        return refused(numbers::IMAGE_LENGTH, 0);
+        return Loaded::refused(numbers::IMAGE_LENGTH, 0);
     }
     if length > limits::IMAGE {
-        return refused(numbers::IMAGE_LENGTH, 0);
+        return Loaded::refused(numbers::IMAGE_LENGTH, 0);
     }
     load_records(image)
-}
-
-fn refused(number: u8, place: usize) -> Loaded
-    ensures { λ r. ⌜ r ≡ refusedLoad number place ⌝ }
-{
-    Loaded {
-        state: State::empty(),
-        number,
-        place,
-    }
 }
 
 // The state is built in place, and each record is judged by the front alone, so that no turn copies the state.
@@ -75,7 +59,7 @@ fn load_records(image: &[u8]) -> Loaded
         let m = state.m;
         let number = front.refusal(record, &given[..n]);
         if number != numbers::DONE {
-            return refused(number, at / limits::RECORD);
+            return Loaded::refused(number, at / limits::RECORD);
         }
         front = front.after(record);
         at = end;
@@ -97,21 +81,7 @@ fn load_records(image: &[u8]) -> Loaded
             Decoded::Refused(_) => {}
         }
     }
-    finished(state, at / limits::RECORD)
-}
-
-// At the end of the records: 7 where there is no task.
-fn finished(state: State, count: usize) -> Loaded
-    ensures { λ r. ⌜ r ≡ finishedLoad state count ⌝ }
-{
-    if state.n == 0 {
-        return refused(numbers::NO_TASK, count);
-    }
-    Loaded {
-        state,
-        number: numbers::DONE,
-        place: 0,
-    }
+    Loaded::finished(state, at / limits::RECORD)
 }
 
 impl Front {

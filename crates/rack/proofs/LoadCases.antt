@@ -10,7 +10,7 @@ use lib.Dec.{eqb}
 use lib.ListN.{length, replicate}
 use lib.Seq.{sets}
 use borrow.Author.Tests.{lt-ltb, le-ltb, eq-eqb, ne-eqb}
-use Rattle.image.specs.declared.load.Loaded.{Loaded}
+use Rattle.executive.specs.declared.loaded.Loaded.{Loaded}
 use Rattle.image.specs.Loading.{loadOf}
 use Rattle.image.specs.Writing.{writeNumber, written}
 use Rattle.lines.specs.Lines.{Put}

@@ -52,7 +52,7 @@ use Rattle.kept.proofs.SoundCalls.{
 }
 use Rattle.executive.specs.declared.standing.Stands.{Stands}
 use Rattle.rack.specs.Boundary.{calledBy, playedPart, partOf, playFrom, notPlayed, Played}
-use Rattle.image.specs.declared.load.Loaded.{Loaded}
+use Rattle.executive.specs.declared.loaded.Loaded.{Loaded}
 use Rattle.image.specs.Loading.{loadOf}
 use Rattle.rack.proofs.ByteParts.{part-long}
 

@@ -30,7 +30,7 @@ use Rattle.charges.specs.declared.Counts.{Counts}
 use Rattle.charges.specs.Charges.{countsOf, chargeBy}
 use Rattle.judging.specs.declared.Verdict.{Verdict}
 use Rattle.judging.specs.Verdicts.{verdictOf}
-use Rattle.image.specs.declared.load.Loaded.{Loaded}
+use Rattle.executive.specs.declared.loaded.Loaded.{Loaded}
 use Rattle.image.specs.Loading.{loadOf}
 use Rattle.image.specs.Writing.{writeNumber, written}
 

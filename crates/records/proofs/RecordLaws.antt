@@ -19,11 +19,11 @@ use Rattle.table.specs.Entries.{loadedTask, loadedSem}
 use Rattle.table.specs.WellFormed.{within, dueInRange, taskInRange, semInRange, boardInRange}
 use Rattle.table.proofs.SumLaws.{both, both-left, both-right, either-way}
 use Rattle.table.proofs.OrderLaws.{within-true, task-range, due-most, board-range}
-use Rattle.fields.specs.Fields.{bytesOf, readAt, putAt, allAre}
+use Rattle.fields.specs.Fields.{bytesOf, readAt, putAt, allAre, Bytes}
 use Rattle.fields.proofs.ByteLaws.{read-back, valueOf-bytesOf, all-replicate, all-stop}
 use Rattle.records.specs.declared.Decoded.{Decoded}
 use Rattle.records.specs.declared.Decoded.the-variants.{Erased, TaskRecord, BoardRecord, SemRecord, Refused}
-use Rattle.records.specs.Records.{Bytes, taskIn, boardIn, semIn, unlessOutOfRange, taskDecoded, boardDecoded, semDecoded, decoded, encodeTask, encodeBoard, encodeSem}
+use Rattle.records.specs.Records.{taskIn, boardIn, semIn, unlessOutOfRange, taskDecoded, boardDecoded, semDecoded, decoded, encodeTask, encodeBoard, encodeSem}
 
 -- 32 zeros, with the kind and the fields of an entry put into them, are the entry's bytes
 pub task-put : (t : Task)

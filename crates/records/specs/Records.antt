@@ -1,9 +1,9 @@
 -- One record of 32 bytes (01, "The image": the table of kinds and fields).
-use Prim.Native.Nat.{ℕ, _<_}
+use Prim.Native.Nat.{ℕ}
 use mathlib.Core.Bool.{Bool, cond, _&&_}
 use mathlib.Core.List.{List, _∷_, _++_}
 use lib.Dec.{eqb}
-use lib.ListN.{length, getD, drop, replicate}
+use lib.ListN.{getD, drop, replicate}
 use Rattle.table.specs.declared.Task.{Task}
 use Rattle.table.specs.declared.Sem.{Sem}
 use Rattle.table.specs.declared.Board.{Board}
@@ -87,7 +87,3 @@ encodeBoard b =
 
 unfoldable pub encodeSem : Sem → List ℕ
 encodeSem s = 3 ∷ 0 ∷ (bytesOf 2 (s .number) ++ replicate 28 0)
-
--- what a lent slice of u8 holds
-abbrev pub Bytes : List ℕ → Type 0
-Bytes l = (i : ℕ) → i < length l → getD l i 0 < 256

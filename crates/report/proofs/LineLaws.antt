@@ -20,7 +20,7 @@ use Rattle.charges.specs.Charges.{chargeBy}
 use Rattle.judging.specs.declared.Verdict.{Verdict}
 use Rattle.judging.specs.Verdicts.{verdictOf}
 use Rattle.executive.specs.States.{tasksOf}
-use Rattle.image.specs.declared.load.Loaded.{Loaded}
+use Rattle.executive.specs.declared.loaded.Loaded.{Loaded}
 use Rattle.image.specs.Loading.{loadOf}
 use Rattle.report.specs.Report.{
   Reported,

@@ -1,4 +1,4 @@
-// The numbers that come back (document 01, "Numbers that come back").
+// The numbers that come back (document 01, "Numbers that come back"; document 02).
 pub const DONE: u8 = 0;
 
 // Loading and writing.
@@ -51,6 +51,15 @@ pub const STILL_HOLDS: u8 = 27;
 pub const RING: u8 = 28;
 
 pub const NOT_HELD: u8 = 29;
+
+// Lists from Linux rigs (document 02, b)): a length or a size field, the policy, the times; and a state that is no list.
+pub const LIST_SIZE: u8 = 40;
+
+pub const LIST_POLICY: u8 = 41;
+
+pub const LIST_TIMES: u8 = 42;
+
+pub const NO_LIST: u8 = 43;
 
 // Not a refusal: acquired later, the caller now waits.
 pub const WAITS: u8 = 90;

@@ -19,7 +19,8 @@ use Rattle.records.specs.declared.Decoded.{Decoded}
 use Rattle.records.specs.declared.Decoded.the-variants.{Erased, TaskRecord, BoardRecord, SemRecord, Refused}
 use Rattle.records.specs.Records.{decoded}
 use Rattle.records.proofs.RecordLaws.{Plain, plain}
-use Rattle.image.specs.declared.load.Loaded.{Loaded}
+use Rattle.executive.specs.declared.loaded.Loaded.{Loaded}
+use Rattle.executive.specs.Reading.{refusedLoad, acceptedLoad, finishedLoad}
 use Rattle.image.specs.Loading.{
   freshTable,
   taken,
@@ -31,9 +32,6 @@ use Rattle.image.specs.Loading.{
   numberTwice,
   tooMany,
   refusalOf,
-  refusedLoad,
-  acceptedLoad,
-  finishedLoad,
   loadFrom,
   recordsIn,
   badLength,
@@ -41,7 +39,7 @@ use Rattle.image.specs.Loading.{
   loadOf,
 }
 use Rattle.image.proofs.LoadLaws.{load-stop, load-go, load-bad, load-good, Passed, passed}
-use Rattle.image.proofs.ReplayLaws.{finished-none, finished-some}
+use Rattle.executive.proofs.ReadingLaws.{finished-none, finished-some}
 use Rattle.theorems.specs.When.{FirstThat}
 use Rattle.theorems.specs.Loads.{IsLast, NotAfter, OrderBroken, NumberTwice, TooMany, recordConditions, Given, BadLength, GivenFor}
 use Rattle.theorems.proofs.Exactly.{some-says}

@@ -55,11 +55,13 @@ use Rattle.executive.specs.Calls.{
 use Rattle.fields.specs.Fields.{valueOf, bytesOf, readAt, allAre}
 use Rattle.records.specs.Records.{taskIn, semIn, unlessOutOfRange, taskDecoded, semDecoded, decoded, encodeTask, encodeSem}
 use Rattle.executive.specs.Tables.{addTask, addSem, addBoard, stateOf}
-use Rattle.image.specs.Loading.{freshTable, taken, erasedAfter, usedAfter, refusedAs, follows, orderBroken, numberTwice, tooMany, refusalOf, acceptedLoad, finishedLoad, loadFrom, loadRecords, recordsIn, badLength, loadOf}
-use Rattle.image.specs.Writing.{flat, encoded}
+use Rattle.executive.specs.Reading.{acceptedLoad, finishedLoad}
+use Rattle.image.specs.Loading.{freshTable, taken, erasedAfter, usedAfter, refusedAs, follows, orderBroken, numberTwice, tooMany, refusalOf, loadFrom, loadRecords, badLength, loadOf}
+use Rattle.fields.specs.Parts.{partsOf, flat}
+use Rattle.image.specs.Writing.{encoded}
 use Rattle.theorems.specs.Histories.{called, after}
 use Rattle.theorems.specs.Cases.{loaded, runs, stepsOf, cases, All}
 
 pub p10-p12 : All (drop 8 cases)
-unfolding firstOf answered any firstPlace taskPlace semPlace within dueInRange taskInRange semInRange taskBefore semBefore used tasksOf semsOf taskAt semAt waitsFor heldBy holderOf waitsOn shownDeadline ownOf better foundAnd passes reaches preferred bestAmong foundOr standingOf isIdle isReady readyAt waiterAt runningOf heirOf numberAt withTasks withSems withLast nowDoes nowHeld moved onTask isNone busy untimely noSemWait holdsIt closesRing notHeld releaseAt takeOrWait acquireAt handOver giveAt releaseOf withdrawOf acquireOf giveOf valueOf bytesOf readAt allAre taskIn semIn unlessOutOfRange taskDecoded semDecoded decoded encodeTask encodeSem freshTable taken addTask addSem addBoard erasedAfter usedAfter refusedAs follows orderBroken numberTwice tooMany refusalOf stateOf acceptedLoad finishedLoad loadFrom loadRecords recordsIn badLength loadOf flat encoded called after loaded runs stepsOf cases
+unfolding firstOf answered any firstPlace taskPlace semPlace within dueInRange taskInRange semInRange taskBefore semBefore used tasksOf semsOf taskAt semAt waitsFor heldBy holderOf waitsOn shownDeadline ownOf better foundAnd passes reaches preferred bestAmong foundOr standingOf isIdle isReady readyAt waiterAt runningOf heirOf numberAt withTasks withSems withLast nowDoes nowHeld moved onTask isNone busy untimely noSemWait holdsIt closesRing notHeld releaseAt takeOrWait acquireAt handOver giveAt releaseOf withdrawOf acquireOf giveOf valueOf bytesOf readAt allAre taskIn semIn unlessOutOfRange taskDecoded semDecoded decoded encodeTask encodeSem freshTable taken addTask addSem addBoard erasedAfter usedAfter refusedAs follows orderBroken numberTwice tooMany refusalOf stateOf acceptedLoad finishedLoad loadFrom loadRecords partsOf badLength loadOf flat encoded called after loaded runs stepsOf cases
 p10-p12 = (refl, ((refl, refl), (refl, tt)))

@@ -63,8 +63,10 @@ use Rattle.executive.specs.Calls.{
 use Rattle.fields.specs.Fields.{valueOf, bytesOf, readAt, allAre}
 use Rattle.records.specs.Records.{taskIn, boardIn, semIn, unlessOutOfRange, taskDecoded, boardDecoded, semDecoded, decoded, encodeTask, encodeBoard, encodeSem}
 use Rattle.executive.specs.Tables.{Table, addTask, addSem, addBoard, stateOf}
-use Rattle.image.specs.Loading.{freshTable, taken, erasedAfter, usedAfter, refusedAs, follows, orderBroken, numberTwice, tooMany, refusalOf, acceptedLoad, finishedLoad, loadFrom, loadRecords, recordsIn, badLength, loadOf}
-use Rattle.image.specs.Writing.{flat, encoded}
+use Rattle.executive.specs.Reading.{acceptedLoad, finishedLoad}
+use Rattle.image.specs.Loading.{freshTable, taken, erasedAfter, usedAfter, refusedAs, follows, orderBroken, numberTwice, tooMany, refusalOf, loadFrom, loadRecords, badLength, loadOf}
+use Rattle.fields.specs.Parts.{partsOf, flat}
+use Rattle.image.specs.Writing.{encoded}
 use Rattle.judging.specs.declared.Verdict.{Verdict}
 use Rattle.judging.specs.Verdicts.{verdictOf}
 use Rattle.theorems.specs.Histories.{Call, release, acquire, give, called, after}
@@ -82,7 +84,7 @@ abbrev tableOfP1 : Table
 tableOfP1 = record { tasks = two 1000; sems = []; board = noFigures; present = true }
 
 p1-loads : (loadOf (encoded tableOfP1)) .number ≡ 0
-unfolding firstOf answered any within dueInRange taskInRange boardInRange taskBefore used valueOf bytesOf readAt allAre taskIn boardIn unlessOutOfRange taskDecoded boardDecoded decoded encodeTask encodeBoard freshTable taken addTask addSem addBoard erasedAfter usedAfter refusedAs follows orderBroken numberTwice tooMany refusalOf stateOf acceptedLoad finishedLoad loadFrom loadRecords recordsIn badLength loadOf flat encoded
+unfolding firstOf answered any within dueInRange taskInRange boardInRange taskBefore used valueOf bytesOf readAt allAre taskIn boardIn unlessOutOfRange taskDecoded boardDecoded decoded encodeTask encodeBoard freshTable taken addTask addSem addBoard erasedAfter usedAfter refusedAs follows orderBroken numberTwice tooMany refusalOf stateOf acceptedLoad finishedLoad loadFrom loadRecords partsOf badLength loadOf flat encoded
 p1-loads = refl
 
 pub loader-accepts : RefusesAll loadOf → ⊥
@@ -145,7 +147,7 @@ computed : (runs (loaded three) ≡ 0)
     × ((taskAt (tasksOf now) 2) .number ≡ 11)
     × (standingAfter three waited 11 ≡ fp 1)
     × (standingAfter three (waited ++ (acquire 1 ∷ [])) 11 ≡ fp 0)
-unfolding firstOf answered any firstPlace taskPlace semPlace within dueInRange taskInRange semInRange taskBefore semBefore used tasksOf semsOf taskAt semAt waitsFor heldBy holderOf waitsOn shownDeadline ownOf better foundAnd passes reaches preferred bestAmong foundOr standingOf isIdle isReady readyAt runningOf numberAt withTasks withSems withLast nowDoes nowHeld moved onTask isNone busy untimely closesRing releaseAt takeOrWait acquireAt releaseOf acquireOf valueOf bytesOf readAt allAre taskIn semIn unlessOutOfRange taskDecoded semDecoded decoded encodeTask encodeSem freshTable taken addTask addSem addBoard erasedAfter usedAfter refusedAs follows orderBroken numberTwice tooMany refusalOf stateOf acceptedLoad finishedLoad loadFrom loadRecords recordsIn badLength loadOf flat encoded called after loaded runs shown standsOf standingAfter
+unfolding firstOf answered any firstPlace taskPlace semPlace within dueInRange taskInRange semInRange taskBefore semBefore used tasksOf semsOf taskAt semAt waitsFor heldBy holderOf waitsOn shownDeadline ownOf better foundAnd passes reaches preferred bestAmong foundOr standingOf isIdle isReady readyAt runningOf numberAt withTasks withSems withLast nowDoes nowHeld moved onTask isNone busy untimely closesRing releaseAt takeOrWait acquireAt releaseOf acquireOf valueOf bytesOf readAt allAre taskIn semIn unlessOutOfRange taskDecoded semDecoded decoded encodeTask encodeSem freshTable taken addTask addSem addBoard erasedAfter usedAfter refusedAs follows orderBroken numberTwice tooMany refusalOf stateOf acceptedLoad finishedLoad loadFrom loadRecords partsOf badLength loadOf flat encoded called after loaded runs shown standsOf standingAfter
 computed = (refl, refl, refl, refl, refl, refl, refl)
 
 pub state-moves : NeverMoves called → ⊥

@@ -36,15 +36,13 @@ use Rattle.records.specs.declared.Decoded.the-variants.{Erased, TaskRecord, Boa
 use Rattle.records.specs.Records.{taskIn, boardIn, semIn, unlessOutOfRange, taskDecoded, boardDecoded, semDecoded, decoded}
 use Rattle.judging.specs.Columns.{at, columnsOf}
 use Rattle.judging.specs.Demands.{demandFP, TimeUpTo}
-use Rattle.image.specs.declared.load.Loaded.{Loaded}
+use Rattle.executive.specs.declared.loaded.Loaded.{Loaded}
+use Rattle.executive.specs.Reading.{refusedLoad, acceptedLoad, finishedLoad}
 use Rattle.image.specs.Loading.{
   freshTable,
   taken,
   erasedAfter,
   refusalOf,
-  refusedLoad,
-  acceptedLoad,
-  finishedLoad,
   loadFrom,
   recordsIn,
   badLength,

@@ -1,7 +1,7 @@
 -- The states that there are (01, "Dispatch": "Every state comes from loading or from a call; that may be assumed of a state, and no more").
 use mathlib.Core.List.{List}
 use Prim.Native.Nat.{ℕ}
-use Rattle.records.specs.Records.{Bytes}
+use Rattle.fields.specs.Fields.{Bytes}
 use Rattle.executive.specs.declared.state.State.{State}
 use Rattle.image.specs.Loading.{loadOf}
 use Rattle.theorems.specs.Histories.{Call, called}

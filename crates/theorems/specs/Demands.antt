@@ -9,7 +9,7 @@ use Rattle.table.specs.declared.Board.{Board}
 use Rattle.table.specs.declared.Task.{Task}
 use Rattle.table.specs.declared.Found.the-variants.{At}
 use Rattle.table.specs.WellFormed.{WellFormed}
-use Rattle.records.specs.Records.{Bytes}
+use Rattle.fields.specs.Fields.{Bytes}
 use Rattle.waits.specs.declared.standing.Rank.{Rank}
 use Rattle.executive.specs.declared.state.State.{State}
 use Rattle.executive.specs.declared.standing.Stands.{Stands}
@@ -23,7 +23,8 @@ use Rattle.executive.specs.Tables.{tableOf, asLoaded}
 use Rattle.judging.specs.Columns.{columnsOf}
 use Rattle.judging.specs.Verdicts.{verdictOf}
 use Rattle.judging.specs.Passes.{Passes}
-use Rattle.image.specs.Loading.{loadOf, acceptedLoad}
+use Rattle.executive.specs.Reading.{acceptedLoad}
+use Rattle.image.specs.Loading.{loadOf}
 use Rattle.image.specs.Writing.{encoded, writeNumber, written}
 use Rattle.image.specs.Accepted.{Accepted}
 use Rattle.theorems.specs.Comes.{Comes}

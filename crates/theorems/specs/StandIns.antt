@@ -13,7 +13,7 @@ use Rattle.executive.specs.declared.standing.Stands.{Stands}
 use Rattle.executive.specs.States.{tasksOf, semsOf}
 use Rattle.waits.specs.Waits.{taskAt, holderOf, waitsOn}
 use Rattle.executive.specs.Calls.{standsOf}
-use Rattle.image.specs.declared.load.Loaded.{Loaded}
+use Rattle.executive.specs.declared.loaded.Loaded.{Loaded}
 use Rattle.executive.specs.Tables.{Table}
 use Rattle.judging.specs.declared.Verdict.{Verdict}
 use Rattle.theorems.specs.Histories.{Call, acquire, called, after}

@@ -9,7 +9,7 @@ use denote.Ref.{now}
 use borrow.Author.Needs.{needs}
 use Rattle.executive.specs.declared.state.State.{State}
 use Rattle.executive.specs.Sound.{Sound}
-use Rattle.image.specs.declared.load.Loaded.{Loaded}
+use Rattle.executive.specs.declared.loaded.Loaded.{Loaded}
 use Rattle.image.proofs.RoundTrips.{loaded-sound}
 use Rattle.executive.specs.declared.calls.Moved.{Moved}
 use Rattle.rack.specs.Boundary.{calledBy}

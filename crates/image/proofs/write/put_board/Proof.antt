@@ -6,7 +6,7 @@ use mathlib.Core.Bool.{Bool, cond}
 use denote.Ref.{now}
 use lib.ListN.{length}
 use Rattle.records.specs.Records.{encodeBoard}
-use Rattle.image.proofs.WriteLaws.{nothing}
+use Rattle.fields.proofs.PartLaws.{nothing}
 use borrow.Author.Needs.{needs}
 use Rattle.image.proofs.write.put_board.Statement.{statement}
 use Rattle.image.proofs.write.put_board.Tie as tie

@@ -1,4 +1,4 @@
--- `image::load::finished` meets its contract: 7 without a task, else the state.
+-- `executive::loaded::Loaded::finished` meets its contract: 7 without a task, else the state.
 -- Assumes nothing.
 use mathlib.Core.List.{[]}
 use mathlib.Core.Path.{sym, ap, _∙_}
@@ -8,10 +8,10 @@ use borrow.Author.Tests.{eq-eqb, ne-eqb}
 use Prim.Native.Nat.{ℕ}
 use Rattle.table.specs.Refusals.{firstOf, answered}
 use Rattle.table.proofs.RefusalLaws.{answered-refused, answered-done, firstOf-here, firstOf-past, firstOf-none}
-use Rattle.image.specs.Loading.{refusedLoad, acceptedLoad, finishedLoad}
+use Rattle.executive.specs.Reading.{refusedLoad, acceptedLoad, finishedLoad}
 use borrow.Author.Needs.{needs}
-use Rattle.image.proofs.load.finished.Statement.{statement}
-use Rattle.image.proofs.load.finished.Tie as tie
+use Rattle.executive.proofs.loaded.Loaded.finished.Statement.{statement}
+use Rattle.executive.proofs.loaded.Loaded.finished.Tie as tie
 
 refused-requires : tie.Need-refused-requires
 refused-requires c κs = search needs

@@ -1,9 +1,9 @@
--- `image::load::refused` meets its contract: the empty state, with the number and the place.
+-- `executive::loaded::Loaded::refused` meets its contract: the empty state, with the number and the place.
 -- Assumes nothing.
-use Rattle.image.specs.Loading.{refusedLoad}
+use Rattle.executive.specs.Reading.{refusedLoad}
 use borrow.Author.Needs.{needs}
-use Rattle.image.proofs.load.refused.Statement.{statement}
-use Rattle.image.proofs.load.refused.Tie as tie
+use Rattle.executive.proofs.loaded.Loaded.refused.Statement.{statement}
+use Rattle.executive.proofs.loaded.Loaded.refused.Tie as tie
 
 empty-requires : tie.Need-empty-requires
 empty-requires c κs = search needs
