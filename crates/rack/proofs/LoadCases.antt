@@ -12,37 +12,22 @@ use lib.Seq.{sets}
 use borrow.Author.Tests.{lt-ltb, le-ltb, eq-eqb, ne-eqb}
 use Rattle.executive.specs.declared.loaded.Loaded.{Loaded}
 use Rattle.image.specs.Loading.{loadOf}
-use Rattle.image.specs.Writing.{writeNumber, written}
 use Rattle.lines.specs.Lines.{Put}
 use Rattle.lines.proofs.PutLaws.{put-more}
+use Rattle.executive.specs.declared.state.State.{State}
 use Rattle.executive.specs.States.{tasksOf}
 use Rattle.judging.specs.declared.Verdict.{Verdict}
 use Rattle.judging.specs.Verdicts.{verdictOf}
 use Rattle.rack.specs.Boundary.{headBytes, entriesBytes, acceptedBytes, judgedBytes, judgedAll, Judged}
 
-module _ (image : List ℕ) (l : Loaded) (buffer : List ℕ) (e : l ≡ loadOf image) where
-  module _ (h : l .number ≢ 0) where
-    pub rewrite-refused : l .number ≡ cond (eqb ((loadOf image) .number) 0) (writeNumber ((loadOf image) .state) (length buffer)) ((loadOf image) .number)
-    rewrite-refused =
-        subst (λ (x : Loaded). l .number ≡ cond (eqb (x .number) 0) (writeNumber (x .state) (length buffer)) (x .number)) e
-        (rw (ne-eqb (l .number) 0 h))
+-- what comes of a reading, refused or not: a number and the contents of a buffer
+module _ {A : Type 0} (read l : Loaded) (refused : Loaded → A) (done : State → A) (e : l ≡ read) where
+  pub told-refused : l .number ≢ 0 → refused l ≡ cond (eqb (read .number) 0) (done (read .state)) (refused read)
+  told-refused h =
+      subst (λ (x : Loaded). refused l ≡ cond (eqb (x .number) 0) (done (x .state)) (refused x)) e (rw (ne-eqb (l .number) 0 h))
 
-    pub rewrite-refused-bytes : buffer ≡ cond (eqb ((loadOf image) .number) 0) (written ((loadOf image) .state) buffer) buffer
-    rewrite-refused-bytes =
-        subst (λ (x : Loaded). buffer ≡ cond (eqb (x .number) 0) (written (x .state) buffer) buffer) e (rw (ne-eqb (l .number) 0 h))
-
-  module _ (h : l .number ≡ 0) where
-    pub rewrite-number : writeNumber (l .state) (length buffer)
-        ≡ cond (eqb ((loadOf image) .number) 0) (writeNumber ((loadOf image) .state) (length buffer)) ((loadOf image) .number)
-    rewrite-number =
-        subst
-        (λ (x : Loaded). writeNumber (l .state) (length buffer) ≡ cond (eqb (x .number) 0) (writeNumber (x .state) (length buffer)) (x .number)) e
-        (rw (eq-eqb (l .number) 0 h))
-
-    pub rewrite-bytes : written (l .state) buffer ≡ cond (eqb ((loadOf image) .number) 0) (written ((loadOf image) .state) buffer) buffer
-    rewrite-bytes =
-        subst (λ (x : Loaded). written (l .state) buffer ≡ cond (eqb (x .number) 0) (written (x .state) buffer) buffer) e
-        (rw (eq-eqb (l .number) 0 h))
+  pub told-done : l .number ≡ 0 → done (l .state) ≡ cond (eqb (read .number) 0) (done (read .state)) (refused read)
+  told-done h = subst (λ (x : Loaded). done (l .state) ≡ cond (eqb (x .number) 0) (done (x .state)) (refused x)) e (rw (eq-eqb (l .number) 0 h))
 
 -- a buffer that is too short is left as it was
 pub judged-short : (image before : List ℕ) → length before < 1032 → Judged image before before 0

@@ -33,6 +33,8 @@ use Rattle.judging.specs.Verdicts.{verdictOf}
 use Rattle.executive.specs.declared.loaded.Loaded.{Loaded}
 use Rattle.image.specs.Loading.{loadOf}
 use Rattle.image.specs.Writing.{writeNumber, written}
+use Rattle.linux.specs.Lists.{readOf}
+use Rattle.linux.specs.Writing.{listNumber, listWritten}
 
 -- rack_judge: byte 0 the load's number, 1 the verdict's number, 2..3 the load's place, 4..5 the task that judging names, 6..7 the count of tasks
 unfoldable pub headBytes : ℕ → ℕ → ℕ → ℕ → ℕ → List ℕ
@@ -72,6 +74,20 @@ pub record Rewritten (image before after : List ℕ) (result : ℕ) : Type 0 whe
   pub contents : after ≡ cond (eqb ((loadOf image) .number) 0) (written ((loadOf image) .state) before) before
   pub number :
       result ≡ cond (eqb ((loadOf image) .number) 0) (writeNumber ((loadOf image) .state) (length before)) ((loadOf image) .number)
+
+-- a refusal and its place in one number
+unfoldable pub told : Loaded → ℕ
+told l = l .number + 256 * l .place
+
+-- rack_import: a refused list returns number + 256 * place; else the write's number. The table is written as an image
+pub record Imported (list before after : List ℕ) (result : ℕ) : Type 0 where
+  pub contents : after ≡ cond (eqb ((readOf list) .number) 0) (written ((readOf list) .state) before) before
+  pub number : result ≡ cond (eqb ((readOf list) .number) 0) (writeNumber ((readOf list) .state) (length before)) (told (readOf list))
+
+-- rack_export: a refused image returns number + 256 * place; else the write's number. The table is written as a list
+pub record Exported (image before after : List ℕ) (result : ℕ) : Type 0 where
+  pub contents : after ≡ cond (eqb ((loadOf image) .number) 0) (listWritten ((loadOf image) .state) before) before
+  pub number : result ≡ cond (eqb ((loadOf image) .number) 0) (listNumber ((loadOf image) .state) (length before)) (told (loadOf image))
 
 -- rack_play: the call that the record of 16 bytes at a place names: 0 the call, 2..3 a task's or semaphore's number, 8..15 a time
 unfoldable pub calledBy : State → List ℕ → ℕ → Moved

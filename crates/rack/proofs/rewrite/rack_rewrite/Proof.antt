@@ -2,8 +2,11 @@
 -- Assumes nothing.
 use mathlib.Core.Path.{_∙_}
 use denote.Ref.{now}
+use lib.ListN.{length}
+use Rattle.image.specs.Loading.{loadOf}
+use Rattle.image.specs.Writing.{writeNumber, written}
 use Rattle.image.proofs.RoundTrips.{sound-of}
-use Rattle.rack.proofs.LoadCases.{rewrite-refused, rewrite-refused-bytes, rewrite-number, rewrite-bytes}
+use Rattle.rack.proofs.LoadCases.{told-refused, told-done}
 use borrow.Author.Needs.{needs}
 use Rattle.rack.proofs.rewrite.rack_rewrite.Statement.{statement}
 use Rattle.rack.proofs.rewrite.rack_rewrite.Tie as tie
@@ -18,9 +21,10 @@ returns : tie.Need-returns
 returns c =
     let a = c .before .before .before .before .args in
     let l = c .before .load in
+    let said = c .if1 .taken in
     record {
-      contents = rewrite-refused-bytes (now (a .image)) (l .result) (now (a .buf)) (l .ensures) (c .if1 .taken);
-      number = rewrite-refused (now (a .image)) (l .result) (now (a .buf)) (l .ensures) (c .if1 .taken);
+      contents = told-refused (loadOf (now (a .image))) (l .result) (λ r. now (a .buf)) (λ s. written s (now (a .buf))) (l .ensures) said;
+      number = told-refused (loadOf (now (a .image))) (l .result) (λ r. r .number) (λ s. writeNumber s (length (now (a .buf)))) (l .ensures) said;
     }
 
 write-requires : tie.Need-write-requires
@@ -37,9 +41,10 @@ returns-2 c =
     let a = c .before .before .before .before .before .before .before .before .before .args in
     let l = c .before .before .before .before .before .before .load in
     let w = c .before .before .write in
+    let said = c .before .before .before .before .before .if1 .left in
     record {
-      contents = w .ensures .1 ∙ rewrite-bytes (now (a .image)) (l .result) (now (a .buf)) (l .ensures) (c .before .before .before .before .before .if1 .left);
-      number = w .ensures .0 ∙ rewrite-number (now (a .image)) (l .result) (now (a .buf)) (l .ensures) (c .before .before .before .before .before .if1 .left);
+      contents = w .ensures .1 ∙ told-done (loadOf (now (a .image))) (l .result) (λ r. now (a .buf)) (λ s. written s (now (a .buf))) (l .ensures) said;
+      number = w .ensures .0 ∙ told-done (loadOf (now (a .image))) (l .result) (λ r. r .number) (λ s. writeNumber s (length (now (a .buf)))) (l .ensures) said;
     }
 
 pub rack-rewrite-spec : {M : Type 1} → statement M
