@@ -16,6 +16,11 @@ pub nothing : {A : Type 0} (l : List A) → length l ≡ 0 → l ≡ []
 nothing [] h = refl
 nothing (x ∷ xs) h = absurd (omega arith)
 
+pub length-parts : (width count : ℕ) (l : List ℕ) → length (partsOf width count l) ≡ count
+unfolding partsOf
+length-parts width zero l = refl
+length-parts width (suc count) l = ap suc (length-parts width count (drop width l))
+
 -- the record at a place, and those behind it
 pub next-part : (width count at : ℕ) (l : List ℕ)
     → partsOf width (suc count) (drop at l) ≡ take (at + width - at) (drop at l) ∷ partsOf width count (drop (at + width) l)

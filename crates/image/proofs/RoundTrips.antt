@@ -5,6 +5,7 @@
 --     reloaded                          load after write: what is written loads with 0, and gives the state as after loading
 --     loaded-sound, sound-of            the state that loading hands back is sound
 --     refused-empty                     a refused load hands back the empty state
+--     load-place                        a place is at most 128
 -- Assumes nothing.
 use Prim.Native.Nat.{ℕ, suc, _+_, _-_, _*_, _/_, _%_, _≤_}
 use mathlib.Core.Path.{_≡_, refl, sym, ap, _∙_, subst}
@@ -26,7 +27,7 @@ use Rattle.executive.proofs.TableLaws.{state-table, loaded-well, loaded-again, 
 use Rattle.executive.proofs.ReadingLaws.{finished-none, finished-some}
 use Rattle.fields.specs.Fields.{Bytes}
 use Rattle.fields.specs.Parts.{flat}
-use Rattle.fields.proofs.PartLaws.{flat-map}
+use Rattle.fields.proofs.PartLaws.{length-parts, flat-map}
 use Rattle.records.specs.Records.{decoded, encodeTask, encodeBoard, encodeSem}
 use Rattle.executive.specs.declared.loaded.Loaded.{Loaded}
 use Rattle.executive.specs.Reading.{refusedLoad, acceptedLoad, finishedLoad}
@@ -146,6 +147,40 @@ image-empty image = go (badLength (length image)) refl
     go false e =
         subst (λ (l : Loaded). (l .number ≡ 0) ⊎ (l .state ≡ emptyState)) (sym (load-good image e))
         (records-empty (recordsIn (length image / 32) image) freshTable false 0)
+
+-- a place is at most the count of the records, of which an image has 128 at most
+records-place : (rs : List (List ℕ)) (t : Table) (e : Bool) (at : ℕ) → (loadFrom t e at rs) .place ≤ at + length rs
+unfolding loadFrom refusedLoad acceptedLoad
+records-place [] t e at = go (eqb ((stateOf t) .n) 0) refl
+  where
+    go : (b : Bool) → eqb ((stateOf t) .n) 0 ≡ b → (finishedLoad (stateOf t) at) .place ≤ at + 0
+    go true z = let none = ap (λ (l : Loaded). l .place) (finished-none (stateOf t) at (eqb-true ((stateOf t) .n) 0 z)) in omega arith
+    go false z =
+        let some : (stateOf t) .n ≡ 0 → ⊥ = eqb-false ((stateOf t) .n) 0 z in
+        let zero = ap (λ (l : Loaded). l .place) (finished-some (stateOf t) at (omega arith)) in
+        omega arith
+records-place (r ∷ rs) t e at = go (eqb number 0) refl (records-place rs (taken t (decoded r)) (erasedAfter e (decoded r)) (suc at))
+  where
+    number : ℕ
+    number = refusalOf e t (decoded r)
+
+    go : (b : Bool) → eqb number 0 ≡ b → (loadFrom (taken t (decoded r)) (erasedAfter e (decoded r)) (suc at) rs) .place ≤ suc at + length rs
+        → (loadFrom t e at (r ∷ rs)) .place ≤ at + suc (length rs)
+    go true z rest = let same = ap (λ (l : Loaded). l .place) (load-go t e at r rs (eqb-true number 0 z)) in omega arith
+    go false z rest = let same = ap (λ (l : Loaded). l .place) (load-stop t e at r rs (eqb-false number 0 z)) in omega arith
+
+pub load-place : (image : List ℕ) → (loadOf image) .place ≤ 128
+unfolding refusedLoad loadRecords
+load-place image = go (badLength (length image)) refl
+  where
+    go : (b : Bool) → badLength (length image) ≡ b → (loadOf image) .place ≤ 128
+    go true e = let same = ap (λ (l : Loaded). l .place) (load-bad image e) in omega arith
+    go false e =
+        let same = ap (λ (l : Loaded). l .place) (load-good image e) in
+        let count = length-parts 32 (length image / 32) image in
+        let within = records-place (recordsIn (length image / 32) image) freshTable false 0 in
+        let short = (length-good (length image) e) .1 in
+        omega arith
 
 -- what is accepted, said without the loader, loads with 0
 pub accepted-loads : (image : List ℕ) → Accepted image → (loadOf image) .number ≡ 0
