@@ -181,17 +181,17 @@ task-raw place a s p =
     let so = fields-so a s p in
     let made : ℕ → ℕ → ℕ → ℕ → ℕ → List ℕ =
     λ size policy flags nice priority.
-        rawOf
-        (record {
-          size = size;
-          policy = policy;
-          flags = flags;
-          nice = nice;
-          priority = priority;
-          runtime = costTicks a * 10;
-          deadline = periodTicks a * 10;
-          period = periodTicks a * 10;
-        }) in
+    rawOf
+    (record {
+      size = size;
+      policy = policy;
+      flags = flags;
+      nice = nice;
+      priority = priority;
+      runtime = costTicks a * 10;
+      deadline = periodTicks a * 10;
+      period = periodTicks a * 10;
+    }) in
     sym
     (ap (λ (k : ℕ). made k (a .policy) (a .flags) (a .nice) (a .priority)) (so .0)
     ∙ (ap (λ (k : ℕ). made 48 k (a .flags) (a .nice) (a .priority)) (so .1)

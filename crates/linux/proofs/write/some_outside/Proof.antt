@@ -66,7 +66,7 @@ loop-again c =
     let i = l .loop .i in (
       omega arith,
       sym (step (c .before .before .before) _
-      ∙ ap (λ (b : Bool). not b || any outsideDP1 (drop (i + 1) (tasksOf s))) (eq-eqb _ 1 (c .if1 .left))) ∙ l .loop .inv .1,
+          ∙ ap (λ (b : Bool). not b || any outsideDP1 (drop (i + 1) (tasksOf s))) (eq-eqb _ 1 (c .if1 .left))) ∙ l .loop .inv .1,
     )
 
 returns-2 : tie.Need-returns-2 Inv-loop μ-loop
