@@ -106,7 +106,7 @@ fn damage_some(rng: &mut Rng, attrs: &mut [Attr]) {
 }
 
 /// A list. Few records as a rule, now and then about as many as there may be.
-pub fn list(rng: &mut Rng) -> Vec<u8> {
+fn list(rng: &mut Rng) -> Vec<u8> {
     let n = match rng.below(16) {
         0 => rng.pick(&[63, 64, 64, 65, 65, 66, 66, 70]),
         1 => 0,
