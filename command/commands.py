@@ -1,7 +1,7 @@
 """The commands: each with its name, what it takes, its help and its function. `./rack help` and every call go by this list."""
 from collections import namedtuple
 
-from command import checks, clean, inventory, output, picture, play, texts
+from command import checks, clean, inventory, linux, output, picture, play, texts
 from command.output import Trouble, Unsaid, complain, say
 
 Command = namedtuple("Command", "name takes summary help options words function")
@@ -111,6 +111,35 @@ A text table has a line for each thing, in the order of the image; '#' starts a 
         {},
         (1, 1, "one image"),
         texts.show,
+    ),
+    Command(
+        "import",
+        "[--size BYTES] [--force] LIST IMAGE",
+        "turns a list from a Linux rig into an image",
+        """\
+A list has a record of 48 bytes for each task, little-endian, as sched_setattr(2) has it: size, policy, flags, nice, priority, runtime, deadline, period,
+the times in nanoseconds. Policy is 6 (SCHED_DEADLINE), flags, nice and priority are zero, the period is zero or the deadline. All tasks come into DP1,
+numbered by their places from 1, and in the order of an image. Runtimes round up to a tick of 10 ns, periods down. What is refused is told by its
+number and its record's place from 0, and nothing is written.
+
+  --size BYTES    fill the image with erased records up to so many bytes
+  --force         write over a file that is there""",
+        {"--size": "a number", "--force": None},
+        (2, 2, "a list and the image to write"),
+        linux.read,
+    ),
+    Command(
+        "export",
+        "[--force] IMAGE LIST",
+        "turns an image of a table in DP1 into a list for a Linux rig",
+        """\
+A record of 48 bytes for each task, in table order, as `./rack import` reads it, with the period in both times. Numbers, semaphores and the board record
+have no place in a list. The image must load and have all its tasks in DP1, else nothing is written.
+
+  --force     write over a file that is there""",
+        {"--force": None},
+        (2, 2, "an image and the list to write"),
+        linux.write,
     ),
 )
 NAMES = {c.name: c for c in COMMANDS}

@@ -8,6 +8,7 @@ from command.output import Trouble, complain
 from command.records import MOST
 
 TEXT_MOST = 1_000_000
+LIST_MOST = 48_000_000
 
 
 def shown(path):
@@ -34,6 +35,18 @@ def read_image(path):
     return read_bytes(path, MOST + 1)
 
 
+def read_whole(path, most, what):
+    data = read_bytes(path, most + 1)
+    if len(data) > most:
+        raise Trouble(f"{shown(path)}: longer than {most:,} bytes, which no {what} here is")
+    return data
+
+
+def read_list(path):
+    """A Linux list, with all that stands behind the records that a table has room for: its length counts."""
+    return read_whole(path, LIST_MOST, "list")
+
+
 def images(paths):
     """Each path with its image, or with None where it cannot be read and that was told."""
     for path in paths:
@@ -47,11 +60,8 @@ def images(paths):
 
 def read_lines(path):
     """The lines of a text: their number, and their words without what follows a '#'."""
-    data = read_bytes(path, TEXT_MOST + 1)
-    if len(data) > TEXT_MOST:
-        raise Trouble(f"{shown(path)}: longer than {TEXT_MOST:,} bytes, which no text here is")
     try:
-        lines = data.decode("utf-8").splitlines()
+        lines = read_whole(path, TEXT_MOST, "text").decode("utf-8").splitlines()
     except UnicodeDecodeError:
         raise Trouble(f"{shown(path)}: not a text file")
     for at, line in enumerate(lines, 1):

@@ -1,4 +1,4 @@
-"""The proved library's three functions, called through ctypes. include/rack.h says what each byte means."""
+"""The proved library's five functions, called through ctypes. include/rack.h says what each byte means."""
 import ctypes
 import struct
 from collections import namedtuple
@@ -23,7 +23,7 @@ def proved():
         path = build.shared_object()
         try:
             loaded = ctypes.CDLL(path)
-            for name in ("rack_judge", "rack_rewrite", "rack_play"):
+            for name in ("rack_judge", "rack_rewrite", "rack_import", "rack_export", "rack_play"):
                 getattr(loaded, name).restype = ctypes.c_uint64
         except (OSError, AttributeError) as e:
             raise Trouble(f"the proved library cannot be loaded: {e}")
@@ -57,6 +57,20 @@ def rewrite(image, before):
     buf = lent(before)
     number = call("rack_rewrite", lent(image), buf)
     return number, buf.raw[: len(before)]
+
+
+def import_list(data, size):
+    """The number, the place of a refused record, and a buffer of so many bytes with the image of a list's table."""
+    buf = lent(bytes(size))
+    place, number = divmod(call("rack_import", lent(data), buf), 256)
+    return number, place, buf.raw[:size]
+
+
+def export_list(image, size):
+    """The write's number, and a buffer of so many bytes with the table as a list, for an image that loads."""
+    buf = lent(bytes(size))
+    number = call("rack_export", lent(image), buf)
+    return number, buf.raw[:size]
 
 
 def play(image, script):

@@ -1,4 +1,4 @@
-"""The numbers that come back, in the words of 01's table "Numbers that come back". They stand here and nowhere else."""
+"""The numbers that come back, in the words of 01's table "Numbers that come back" and of 02's requests. They stand here and nowhere else."""
 
 MEANING = {
     0: "done",
@@ -26,5 +26,9 @@ MEANING = {
     27: "running task still holds a semaphore",
     28: "acquiring would close a ring of waits, one's own semaphore included",
     29: "given semaphore is not held by the running task",
+    40: "list length not a multiple of 48, or a size field not 48",
+    41: "policy not 6, or flags, nice or priority not zero",
+    42: "unequal times, in nanoseconds, or rounded values outside their ranges",
+    43: "a task outside DP1 or a buffer not of exactly 48 bytes a task",
     90: "not a refusal: acquired later, the caller now waits",
 }

@@ -108,12 +108,16 @@ def image_of(path):
     return image
 
 
+def wrong_size(size, least):
+    return Trouble(f"--size {size}: a multiple of 32 from {least} to 4096 is needed")
+
+
 def make(found, words):
     table, target = words
     image, size = image_of(table), found.get("--size")
     if size is not None:
         if size % RECORD or size > MOST or size < len(image):
-            raise Trouble(f"--size {size}: a multiple of 32 from {len(image)} to 4096 is needed")
+            raise wrong_size(size, len(image))
         image = image.ljust(size, b"\xff")
     files.write(target, image, "--force" in found)
     return 0

@@ -7,6 +7,7 @@ import xml.etree.ElementTree
 from fractions import Fraction
 
 from command.library import JUDGE_BYTES
+from command.linux import ATTR
 from command.numbers import MEANING
 from command.tests.bench import EXAMPLES, EXPECTED, GOOD, REFUSED, ROOT, SHELF, Bench, contents
 
@@ -27,9 +28,10 @@ class Numbers(Bench):
 
 
 class Boundary(Bench):
-    def test_the_length_of_a_judgement(self):
+    def test_lengths(self):
         header = contents(os.path.join(ROOT, "include", "rack.h")).decode("utf-8")
         self.assertIn(f"#define RACK_JUDGE_BYTES {JUDGE_BYTES}\n", header)
+        self.assertIn(f"#define RACK_LIST_RECORD {ATTR.size}\n", header)
 
 
 class Explain(Bench):

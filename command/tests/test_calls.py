@@ -40,6 +40,9 @@ class WrongCalls(Bench):
             (("make", "t", "i", "--size"), "--size wants a number"),
             (("show",), "show wants one image"),
             (("show", GOOD, GOOD), "show wants one image"),
+            (("import", "l"), "import wants a list and the image to write"),
+            (("export", GOOD), "export wants an image and the list to write"),
+            (("export", "--size", "96", GOOD, "l"), "there is no option --size here"),
             (("check", "--size", "32", GOOD), "there is no option --size here"),
         ):
             with self.subTest(" ".join(words)):

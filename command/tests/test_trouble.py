@@ -3,7 +3,9 @@ import os
 import resource
 import sys
 
-from command.tests.bench import GOOD, PLAIN, RACK, REFUSED, SHELF, Bench, contents
+from command.tests.bench import EXAMPLES, GOOD, PLAIN, RACK, REFUSED, SHELF, Bench, contents
+
+LIST, IN_DP1 = os.path.join(EXAMPLES, "linux", "whole.lin"), os.path.join(EXAMPLES, "linux", "left-out.img")
 
 # each command that reads a file, with the file in the place of {}
 READERS = (
@@ -17,8 +19,10 @@ READERS = (
     ("play", GOOD, "{}"),
     ("make", "{}", "new"),
     ("show", "{}"),
+    ("import", "{}", "new"),
+    ("export", "{}", "new"),
 )
-WRITERS = (("clean", GOOD), ("picture", GOOD), ("make", "table.txt"))
+WRITERS = (("clean", GOOD), ("picture", GOOD), ("make", "table.txt"), ("import", LIST), ("export", IN_DP1))
 NO_OVERRIDE = ("setpriv", "--bounding-set=-dac_override,-dac_read_search")
 
 
@@ -84,7 +88,7 @@ class Reading(Bench):
         for name, answer in (("empty.img", "image 7 0"), ("long.img", "image 1 0"), ("/dev/zero", "image 1 0")):
             self.assertEqual(self.rack("check", name).out, answer + "\n")
             self.assertIn(answer, self.rack("inventory", name).out)
-            for words in (("clean", name, "new"), ("picture", name, "new"), ("show", name)):
+            for words in (("clean", name, "new"), ("picture", name, "new"), ("export", name, "new"), ("show", name)):
                 self.assert_told(self.rack(*words, status=1), name, f"refused with {answer[6]} at record 0")
         self.assertIn("The image has 0 bytes and 0 records", self.rack("check", "--explain", "empty.img").out)
         self.assertIn("The image has more than 4,096 bytes.", self.rack("check", "--explain", "long.img").out)
@@ -227,6 +231,7 @@ class Saying(Bench):
         script = self.put("script.txt", b"release 1 0\n")
         yield from (("check", GOOD), ("check", "--explain", GOOD), ("inventory", SHELF), ("inventory", "--json", SHELF))
         yield from (("show", GOOD), ("play", GOOD, script), ("clean", "--force", GOOD, "new"), ("help",), ("help", "check"))
+        yield from (("import", "--force", LIST, "new"), ("export", "--force", IN_DP1, "new"))
 
     def each_call(self, why, **how):
         for words in self.calls():

@@ -111,6 +111,92 @@ static void test_deadline_judged(void) {
     expect(out[0] == 4 && out[2] == 2, "a byte behind the deadline gives 4");
 }
 
+/* A record as sched_setattr(2) has it, its period the deadline or zero; times below 65,536 ns. */
+static void put_attr(uint8_t *record, uint16_t runtime, uint16_t deadline, int has_period) {
+    memset(record, 0, RACK_LIST_RECORD);
+    record[0] = RACK_LIST_RECORD;
+    record[4] = 6;
+    put(record + 24, runtime);
+    put(record + 32, deadline);
+    put(record + 40, has_period ? deadline : 0);
+}
+
+/* Two records that are rounded and put in order: the second, of the shorter period, becomes the first task. */
+static void make_list(uint8_t list[96]) {
+    put_attr(list, 10001, 30009, 0);
+    put_attr(list + 48, 19990, 20000, 1);
+}
+
+static void test_import(void) {
+    uint8_t list[96], buf[96];
+    const uint8_t first[12] = {1, 1, 2, 0, 2000 % 256, 2000 / 256, 0, 0, 1999 % 256, 1999 / 256, 0, 0};
+    const uint8_t second[12] = {1, 1, 1, 0, 3000 % 256, 3000 / 256, 0, 0, 1001 % 256, 1001 / 256, 0, 0};
+    make_list(list);
+    memset(buf, 170, sizeof buf);
+    expect(rack_import(list, 96, buf, 32) == 9 && buf[0] == 170, "a buffer that is too short gives 9 and stays");
+    expect(rack_import(list, 96, buf, 95) == 9 && buf[0] == 170, "a buffer of an odd length gives 9 and stays");
+    expect(rack_import(list, 96, buf, 96) == 0, "a list is read");
+    expect(memcmp(buf, first, 12) == 0 && memcmp(buf + 32, second, 12) == 0, "runtimes go up, periods down, the table is in order");
+    expect(buf[12] == 0 && buf[63] == 0 && buf[64] == 255 && buf[95] == 255, "with zeros in the records and 255 behind them");
+}
+
+static void test_import_refused(void) {
+    const struct {
+        size_t at;
+        uint8_t value;
+        size_t length;
+        uint64_t answer;
+        const char *what;
+    } cases[] = {
+        {0, 48, 95, 40, "a length that is no multiple of 48 gives 40"},
+        {48, 56, 96, 40 + 256, "a size field of 56 gives 40 at its record"},
+        {4, 0, 96, 41, "policy 0 gives 41"},
+        {48 + 15, 1, 96, 41 + 256, "a flag gives 41 at its record"},
+        {16, 255, 96, 41, "a nice value gives 41"},
+        {20, 1, 96, 41, "a priority gives 41"},
+        {48 + 40, 33, 96, 42 + 256, "times that are not equal in nanoseconds give 42"},
+        {48 + 31, 255, 96, 42 + 256, "a runtime near 2^64 gives 42"},
+        {0, 48, 0, 7, "an empty list gives 7"},
+    };
+    for (size_t i = 0; i < sizeof cases / sizeof cases[0]; i++) {
+        uint8_t list[96], buf[64];
+        make_list(list);
+        list[cases[i].at] = cases[i].value;
+        memset(buf, 170, sizeof buf);
+        expect(rack_import(list, cases[i].length, buf, 64) == cases[i].answer, cases[i].what);
+        expect(buf[0] == 170 && buf[63] == 170, "a refused list changes no byte");
+    }
+}
+
+/* 64 records are read; a 65th gives 6 at its place, if nothing else is wrong with it. */
+static void test_import_full(void) {
+    uint8_t list[65 * 48], buf[64 * 32];
+    for (int i = 0; i < 65; i++)
+        put_attr(list + 48 * i, 1, 60000, 1);
+    memset(buf, 170, sizeof buf);
+    expect(rack_import(list, sizeof list, buf, sizeof buf) == 6 + 256 * 64 && buf[0] == 170, "a 65th record gives 6 and nothing changes");
+    expect(rack_import(list, 64 * 48, buf, sizeof buf) == 0 && buf[2] == 1 && buf[63 * 32 + 2] == 64, "64 of equal period stay in order");
+    list[64 * 48 + 4] = 7;
+    expect(rack_import(list, sizeof list, buf, sizeof buf) == 41 + 256 * 64, "41 comes before 6");
+}
+
+/* The tasks of P1, whose board and semaphore a list has no place for. */
+static void test_export(const uint8_t *image) {
+    uint8_t list[97], wanted[96], other[128];
+    put_attr(wanted, 10000, 20000, 1);
+    put_attr(wanted + 48, 10000, 20000, 1);
+    memset(list, 170, sizeof list);
+    expect(rack_export(image, 128, list, 48) == 43 && list[0] == 170, "a list with too little room gives 43 and stays");
+    expect(rack_export(image, 128, list, 97) == 43 && list[0] == 170, "a list with too much room gives 43 and stays");
+    expect(rack_export(image, 33, list, 96) == 1 && list[0] == 170, "an image of length 33 gives 1 and the list stays");
+    make_image(other, 3);
+    expect(rack_export(other, 128, list, 96) == 43 && list[0] == 170, "a task outside DP1 gives 43 and the list stays");
+    other[65] = 1;
+    expect(rack_export(other, 128, list, 96) == 5 + 256 * 2 && list[0] == 170, "a queue that falls gives 5 at its record");
+    expect(rack_export(image, 128, list, 96) == 0, "a table in DP1 is written");
+    expect(memcmp(list, wanted, 96) == 0 && list[96] == 170, "with the period in both times, and no byte more");
+}
+
 int main(void) {
     uint8_t image[128];
     make_image(image, 1);
@@ -119,5 +205,9 @@ int main(void) {
     test_play(image);
     test_deadline_range();
     test_deadline_judged();
+    test_import();
+    test_import_refused();
+    test_import_full();
+    test_export(image);
     return failures > 0;
 }

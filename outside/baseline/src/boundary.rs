@@ -1,6 +1,6 @@
 //! The same boundary as the proved library's, so that the two are called alike.
 
-use crate::{charges::charges, image, judging, State};
+use crate::{charges::charges, image, judging, linux, State};
 
 pub fn judge(bytes: &[u8], out: &mut [u8]) -> u64 {
     if out.len() < 1032 {
@@ -34,6 +34,27 @@ pub fn rewrite(bytes: &[u8], buffer: &mut [u8]) -> u64 {
         return u64::from(number);
     }
     u64::from(image::write(&state, buffer))
+}
+
+/// A refusal's number and place as one.
+fn refused((number, place): (u8, usize)) -> u64 {
+    u64::from(number) + 256 * place as u64
+}
+
+pub fn import(list: &[u8], buffer: &mut [u8]) -> u64 {
+    let mut state = State::empty();
+    match linux::read(list, &mut state) {
+        (0, _) => u64::from(image::write(&state, buffer)),
+        refusal => refused(refusal),
+    }
+}
+
+pub fn export(bytes: &[u8], list: &mut [u8]) -> u64 {
+    let mut state = State::empty();
+    match image::load(bytes, &mut state) {
+        (0, _) => u64::from(linux::write(&state, list)),
+        refusal => refused(refusal),
+    }
 }
 
 /// The call that a record names; 255 where it names none.

@@ -6,6 +6,7 @@ pub mod charges;
 pub mod dispatch;
 pub mod image;
 pub mod judging;
+pub mod linux;
 
 #[derive(Clone, Copy, PartialEq, Eq, Debug)]
 pub enum Status {

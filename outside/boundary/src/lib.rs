@@ -4,6 +4,8 @@ mod raw {
     extern "C" {
         pub fn rack_judge(image: *const u8, image_len: usize, out: *mut u8, out_len: usize) -> u64;
         pub fn rack_rewrite(image: *const u8, image_len: usize, buf: *mut u8, buf_len: usize) -> u64;
+        pub fn rack_import(list: *const u8, list_len: usize, buf: *mut u8, buf_len: usize) -> u64;
+        pub fn rack_export(image: *const u8, image_len: usize, list: *mut u8, list_len: usize) -> u64;
         pub fn rack_play(image: *const u8, image_len: usize, script: *const u8, script_len: usize, out: *mut u8, out_len: usize) -> u64;
     }
 }
@@ -18,6 +20,18 @@ pub fn judge(image: &[u8], out: &mut [u8]) -> u64 {
 pub fn rewrite(image: &[u8], buffer: &mut [u8]) -> u64 {
     // SAFETY: as above.
     unsafe { raw::rack_rewrite(image.as_ptr(), image.len(), buffer.as_mut_ptr(), buffer.len()) }
+}
+
+/// Reads a Linux list and writes its table to a buffer as an image.
+pub fn import(list: &[u8], buffer: &mut [u8]) -> u64 {
+    // SAFETY: as above.
+    unsafe { raw::rack_import(list.as_ptr(), list.len(), buffer.as_mut_ptr(), buffer.len()) }
+}
+
+/// Loads an image and writes its table as a Linux list.
+pub fn export(image: &[u8], list: &mut [u8]) -> u64 {
+    // SAFETY: as above.
+    unsafe { raw::rack_export(image.as_ptr(), image.len(), list.as_mut_ptr(), list.len()) }
 }
 
 /// Loads an image and plays a script of calls.

@@ -1,8 +1,9 @@
-//! What the model says that the boundary's three functions answer, and what it leaves in the lent buffers.
+//! What the model says that the boundary's five functions answer, and what it leaves in the lent buffers.
 
 use model::dispatch::{Call, Model};
-use model::image::{read, rewrite};
+use model::image::{read, write, Refusal};
 use model::judge::{charges, judge};
+use model::linux;
 
 pub fn judged(image: &[u8], out: &mut [u8]) -> u64 {
     if out.len() < 1032 {
@@ -31,7 +32,20 @@ pub fn judged(image: &[u8], out: &mut [u8]) -> u64 {
 }
 
 pub fn rewritten(image: &[u8], buffer: &mut [u8]) -> u64 {
-    u64::from(rewrite(image, buffer))
+    read(image).map_or_else(|refusal| refusal.number, |table| write(&table, buffer)).into()
+}
+
+/// A refusal as the boundary for lists hands it back: its number, and 256 times its place.
+fn refused(refusal: Refusal) -> u64 {
+    u64::from(refusal.number) + 256 * refusal.place as u64
+}
+
+pub fn imported(list: &[u8], buffer: &mut [u8]) -> u64 {
+    linux::read(list).map_or_else(refused, |table| write(&table, buffer).into())
+}
+
+pub fn exported(image: &[u8], list: &mut [u8]) -> u64 {
+    read(image).map_or_else(refused, |table| linux::write(&table, list).into())
 }
 
 /// The call that a script record names, if it names one.

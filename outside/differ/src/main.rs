@@ -7,11 +7,14 @@ mod calls;
 mod expected;
 mod images;
 mod kinds;
+mod list_kinds;
+mod lists;
 mod rng;
 mod subjects;
 mod vectors;
 
-const USE: &str = "use: differ images COUNT SEED | differ calls COUNT SEED | differ vectors FOLDER | differ old-vectors FOLDER";
+const USE: &str =
+    "use: differ images COUNT SEED | differ calls COUNT SEED | differ lists COUNT SEED | differ vectors FOLDER | differ old-vectors FOLDER";
 
 fn seeded(words: &[String], run: fn(u64, u64) -> Result<kinds::Seen, String>, must_see: &[&str]) -> Result<String, String> {
     let number = |i: usize| words.get(i).and_then(|w| w.parse::<u64>().ok()).ok_or(USE.to_string());
@@ -31,6 +34,7 @@ fn answer(words: &[String]) -> Result<String, String> {
     match words.first().map(String::as_str) {
         Some("images") => seeded(words, images::run, &images::MUST_SEE),
         Some("calls") => seeded(words, calls::run, &calls::MUST_SEE),
+        Some("lists") => seeded(words, lists::run, &list_kinds::MUST_SEE),
         Some("vectors") => vectors::run(Path::new(words.get(1).ok_or(USE)?)),
         Some("old-vectors") => vectors::run_old(Path::new(words.get(1).ok_or(USE)?)),
         _ => Err(USE.to_string()),

@@ -1,6 +1,7 @@
-//! Stored images and call scripts with their expected answers: NNNN.img with NNNN.out, and NNNN.calls.
+//! Stored images, call scripts and Linux lists with their expected answers: NNNN.img with NNNN.out, NNNN.calls, and NNNN.lin with NNNN.linout.
 
-use crate::expected::call_of;
+use crate::expected::{call_of, exported, imported};
+use crate::images::hex;
 use crate::subjects::SUBJECTS;
 use model::dispatch::Model;
 use model::judge::report;
@@ -134,13 +135,53 @@ fn judge(path: &Path) -> Result<(), String> {
     Ok(())
 }
 
-/// The images and scripts of a folder.
+/// What is told of a list, made of what importing it and exporting its image answer; of a refused one also where a byte was changed.
+fn told(import: fn(&[u8], &mut [u8]) -> u64, export: fn(&[u8], &mut [u8]) -> u64, list: &[u8]) -> String {
+    let records = list.len() / 48;
+    let (mut image, mut written) = (vec![170; 32 * records], vec![170; 48 * records]);
+    let answer = import(list, &mut image);
+    let text = format!("read {} {}\n", answer % 256, answer / 256);
+    if answer != 0 {
+        let changed = image.iter().any(|byte| *byte != 170);
+        return text + if changed { "a byte was changed\n" } else { "" };
+    }
+    let number = export(&image, &mut written);
+    text + &format!("image {}\nwrite {number}\nlist {}\n", hex(&image), hex(&written))
+}
+
+fn list(path: &Path) -> Result<(), String> {
+    let list = fs::read(path).map_err(trouble(path))?;
+    let answer = path.with_extension("linout");
+    let wanted = fs::read_to_string(&answer).map_err(trouble(&answer))?;
+    if told(imported, exported, &list) != wanted {
+        return Err(format!("{}: the model differs", path.display()));
+    }
+    for subject in &SUBJECTS {
+        if told(subject.import, subject.export, &list) != wanted {
+            return Err(format!("{}: {} differs", path.display(), subject.name));
+        }
+    }
+    Ok(())
+}
+
+/// Each kind of case, and the kind of the answer beside it, if that has a file of its own.
+const CASES: [(&str, Option<&str>); 3] = [("img", Some("out")), ("calls", None), ("lin", Some("linout"))];
+
+/// The images, scripts and lists of a folder; an answer to none of them is an error.
 fn cases(folder: &Path) -> Result<Vec<PathBuf>, String> {
     let entries = fs::read_dir(folder).map_err(trouble(folder))?;
-    let paths = entries.filter_map(|entry| entry.ok().map(|e| e.path()));
-    let mut found: Vec<PathBuf> = paths.filter(|p| ends_in(p, "img") || ends_in(p, "calls")).collect();
-    found.sort();
-    Ok(found)
+    let mut paths: Vec<PathBuf> = entries.filter_map(|entry| entry.ok().map(|e| e.path())).collect();
+    paths.sort();
+    if let Some(path) = paths.iter().find(|path| lonely(path)) {
+        return Err(format!("{}: an answer without its case", path.display()));
+    }
+    paths.retain(|path| CASES.iter().any(|(case, _)| ends_in(path, case)));
+    Ok(paths)
+}
+
+/// Whether a file is the answer to a case that is not there.
+fn lonely(path: &Path) -> bool {
+    CASES.iter().any(|(case, answer)| answer.is_some_and(|ending| ends_in(path, ending)) && !path.with_extension(case).exists())
 }
 
 fn ends_in(path: &Path, ending: &str) -> bool {
@@ -154,27 +195,30 @@ fn has_deadline(path: &Path) -> Result<bool, String> {
     Ok(image.chunks_exact(32).any(|record| record[0] == 1 && record[12..16] != [0; 4]))
 }
 
-/// Runs every image and script; how many images, and how many calls.
-fn replay(paths: &[PathBuf]) -> Result<(usize, usize), String> {
-    let (mut images, mut calls) = (0, 0);
+/// Runs every case; how many images, calls and lists there were.
+fn replay(paths: &[PathBuf]) -> Result<(usize, usize, usize), String> {
+    let (mut images, mut calls, mut lists) = (0, 0, 0);
     for path in paths {
         if ends_in(path, "calls") {
             calls += play(path)?;
+        } else if ends_in(path, "lin") {
+            list(path)?;
+            lists += 1;
         } else {
             judge(path)?;
             images += 1;
         }
     }
-    Ok((images, calls))
+    Ok((images, calls, lists))
 }
 
 /// Runs every case of a folder.
 pub fn run(folder: &Path) -> Result<String, String> {
-    let (images, calls) = replay(&cases(folder)?)?;
-    if images + calls == 0 {
+    let (images, calls, lists) = replay(&cases(folder)?)?;
+    if images + calls + lists == 0 {
         return Err(format!("{}: no vector", folder.display()));
     }
-    Ok(format!("vectors: {images} images and {calls} calls, no difference"))
+    Ok(format!("vectors: {images} images, {calls} calls and {lists} lists, no difference"))
 }
 
 /// Runs those cases of a folder from before request a) that have no task record with a deadline: what they answered then, they answer now.
@@ -186,7 +230,7 @@ pub fn run_old(folder: &Path) -> Result<String, String> {
             kept.push(path.clone());
         }
     }
-    let (images, calls) = replay(&kept)?;
+    let (images, calls, _) = replay(&kept)?;
     if images == 0 || calls == 0 {
         return Err(format!("{}: no image or no call script without a deadline", folder.display()));
     }

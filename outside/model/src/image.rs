@@ -214,13 +214,9 @@ pub fn records(table: &Table) -> Vec<u8> {
     all.concat()
 }
 
-/// What loading an image and writing it to a buffer answers; the buffer's bytes change only where the answer is 0.
-pub fn rewrite(image: &[u8], buffer: &mut [u8]) -> u8 {
-    let table = match read(image) {
-        Ok(table) => table,
-        Err(refusal) => return refusal.number,
-    };
-    let bytes = records(&table);
+/// Writes a table to a buffer; the buffer's bytes change only where the answer is 0.
+pub fn write(table: &Table, buffer: &mut [u8]) -> u8 {
+    let bytes = records(table);
     if buffer.len() % 32 != 0 || buffer.len() > 4096 || buffer.len() < bytes.len() {
         return 9;
     }
