@@ -85,7 +85,7 @@ pub record Ended (tasks : List Task) (at : ℕ) (rs : List (List ℕ)) (answer :
   pub from : (t : Task) → Has all blankTask t → Has tasks blankTask t ⊎ ((i : ℕ) × (i < length rs) × (t ≡ taskOf (at + i) (attrIn (getD rs i []))))
 
 -- the tasks behind a record that is not refused
-grown : (tasks : List Task) (at : ℕ) (a : Attr) → Growing tasks → at ≡ length tasks → Passed (length tasks) a → Growing (inserted taskBefore (taskOf at a) tasks)
+pub grown : (tasks : List Task) (at : ℕ) (a : Attr) → Growing tasks → at ≡ length tasks → Passed (length tasks) a → Growing (inserted taskBefore (taskOf at a) tasks)
 grown tasks at a g e p = subst (λ (k : ℕ). Growing (inserted taskBefore (taskOf k a) tasks)) (sym e) (grow tasks g a p)
 
 ended-on : (tasks : List Task) (at : ℕ) (r : List ℕ) (rest : List (List ℕ)) (answer : Loaded) → Passed at (attrIn r)

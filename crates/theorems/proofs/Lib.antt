@@ -3,9 +3,11 @@ pub mod CaseLaws
 pub mod Exactly
 pub mod FirstLaws
 pub mod Judged
+pub mod Listed
 pub mod LoadedWhen
 pub mod Numbers
 pub mod PlayedCases
+pub mod ReadingWhen
 pub mod Replay
 pub mod Shown
 pub mod ShutOut

@@ -19,8 +19,7 @@ use Rattle.records.specs.declared.Decoded.{Decoded}
 use Rattle.records.specs.declared.Decoded.the-variants.{Erased, TaskRecord, BoardRecord, SemRecord, Refused}
 use Rattle.records.specs.Records.{decoded}
 use Rattle.records.proofs.RecordLaws.{Plain, plain}
-use Rattle.executive.specs.declared.loaded.Loaded.{Loaded}
-use Rattle.executive.specs.Reading.{refusedLoad, acceptedLoad, finishedLoad}
+use Rattle.executive.specs.Reading.{refusedLoad}
 use Rattle.image.specs.Loading.{
   freshTable,
   taken,
@@ -38,12 +37,12 @@ use Rattle.image.specs.Loading.{
   loadRecords,
   loadOf,
 }
-use Rattle.image.proofs.LoadLaws.{load-stop, load-go, load-bad, load-good, Passed, passed}
-use Rattle.executive.proofs.ReadingLaws.{finished-none, finished-some}
+use Rattle.image.proofs.LoadLaws.{load-bad, load-good, Passed, passed}
 use Rattle.theorems.specs.When.{FirstThat}
 use Rattle.theorems.specs.Loads.{IsLast, NotAfter, OrderBroken, NumberTwice, TooMany, recordConditions, Given, BadLength, GivenFor}
 use Rattle.theorems.proofs.Exactly.{some-says}
 use Rattle.theorems.proofs.FirstLaws.{nothing-more, test-says, first-that, either}
+use Rattle.theorems.proofs.ReadingWhen.{Comes-with, same-load, end-when, step-when}
 
 -- each test of a record says what its condition says
 used-says : (erased : Bool) (d : Decoded) → (usedAfter erased d ≡ true) ↔ ((erased ≡ true) × (d ≢ Erased))
@@ -273,75 +272,16 @@ record-when t e at stood d k =
     (λ g. test-says (twice-says t d)
     (λ l. test-says (many-says t d) (λ m. nothing-more))))))) k
 
-abbrev Comes-with : Loaded → ℕ → ℕ → Type 0
-Comes-with l k place = (l .number ≡ k) × (l .place ≡ place)
-
--- what a load gives, and an equal load
-same-load : {l m : Loaded} → l ≡ m → {k place : ℕ} → Comes-with l k place → Comes-with m k place
-same-load e h = (sym (ap (λ (x : Loaded). x .number) e) ∙ h .0, sym (ap (λ (x : Loaded). x .place) e) ∙ h .1)
-
--- behind the last record
-some-task : (n : ℕ) → eqb n 0 ≡ false → 1 ≤ n
-some-task n h = let some = eqb-false n 0 h in omega arith
-
-end-when : (t : Table) (erased : Bool) (at k place : ℕ) (none : Bool) → eqb (length (t .tasks)) 0 ≡ none
-    → Comes-with (finishedLoad (stateOf t) at) k place ↔ Given t erased at [] k place
-unfolding refusedLoad acceptedLoad stateOf
-end-when t erased at k place true e =
-    let l = finished-none (stateOf t) at (eqb-true (length (t .tasks)) 0 e) in (
-      λ h. let g = same-load l h in inl (eqb-true (length (t .tasks)) 0 e, sym (g .0), sym (g .1)),
-      λ w. elim w [
-        | inl v ↦ same-load (sym l) (sym (v .1), sym (v .2))
-        | inr v ↦ absurd (v .0 (eqb-true (length (t .tasks)) 0 e))
-      ],
-    )
-end-when t erased at k place false e =
-    let l = finished-some (stateOf t) at (some-task (length (t .tasks)) e) in (
-      λ h. let g = same-load l h in inr (eqb-false (length (t .tasks)) 0 e, sym (g .0), sym (g .1)),
-      λ w. elim w [
-        | inl v ↦ absurd (eqb-false (length (t .tasks)) 0 e (v .0))
-        | inr v ↦ same-load (sym l) (sym (v .1), sym (v .2))
-      ],
-    )
-
 -- a record, and what follows it
 records-when : (t : Table) (erased : Bool) (at : ℕ) (records : List (List ℕ)) → Stood t erased at → (k place : ℕ)
     → Comes-with (loadFrom t erased at records) k place ↔ Given t erased at records k place
-unfolding loadFrom refusedLoad
-records-when t erased at [] stood k place = end-when t erased at k place (eqb (length (t .tasks)) 0) refl
+unfolding loadFrom stateOf
+records-when t erased at [] stood k place = end-when (stateOf t) at k place
 records-when t erased at (r ∷ rest) stood k place =
-    step (eqb refusal 0) refl
-    (λ none. records-when (taken t (decoded r)) (erasedAfter erased (decoded r)) (suc at) rest
-    (stood-on t erased at (decoded r) (plain r) (passed erased t (decoded r) none)) k place)
-  where
-    refusal : ℕ
-    refusal = refusalOf erased t (decoded r)
-
-    when : (j : ℕ) → (refusal ≡ j) ↔ FirstThat (recordConditions t erased at (decoded r)) j
-    when j = record-when t erased at stood (decoded r) j
-
-    step : (b : Bool) → eqb refusal 0 ≡ b
-        → (refusal ≡ 0 → Comes-with (loadFrom (taken t (decoded r)) (erasedAfter erased (decoded r)) (suc at) rest) k place
-        ↔ Given (taken t (decoded r)) (erasedAfter erased (decoded r)) (suc at) rest k place)
-        → Comes-with (loadFrom t erased at (r ∷ rest)) k place ↔ Given t erased at (r ∷ rest) k place
-    step true e rest-when =
-        let none : refusal ≡ 0 = eqb-true refusal 0 e in
-        let l = load-go t erased at r rest none in (
-          λ h. inr (when 0 .0 none, rest-when none .0 (same-load l h)),
-          λ w. elim w [
-            | inl v ↦ absurd (v .0 (sym (when k .1 (v .1)) ∙ none))
-            | inr v ↦ same-load (sym l) (rest-when none .1 (v .1))
-          ],
-        )
-    step false e rest-when =
-        let some : refusal ≢ 0 = eqb-false refusal 0 e in
-        let l = load-stop t erased at r rest some in (
-          λ h. let g = same-load l h in inl (λ z. some (g .0 ∙ z), when k .0 (g .0), sym (g .1)),
-          λ w. elim w [
-            | inl v ↦ same-load (sym l) (when k .1 (v .1), sym (v .2))
-            | inr v ↦ absurd (some (when 0 .1 (v .0)))
-          ],
-        )
+    let d = decoded r in
+    step-when (refusalOf erased t d) at (recordConditions t erased at d) (loadFrom (taken t d) (erasedAfter erased d) (suc at) rest)
+    (Given (taken t d) (erasedAfter erased d) (suc at) rest k place) k place (record-when t erased at stood d)
+    (λ none. records-when (taken t d) (erasedAfter erased d) (suc at) rest (stood-on t erased at d (plain r) (passed erased t d none)) k place)
 
 -- the length
 pub length-says : (bytes : ℕ) → (badLength bytes ≡ true) ↔ ((bytes % 32 ≢ 0) ⊎ (4096 < bytes))

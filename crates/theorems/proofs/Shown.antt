@@ -34,7 +34,8 @@ use Rattle.judging.proofs.PassLaws as Pass
 use Rattle.image.specs.Loading.{badLength}
 use Rattle.image.specs.Writing.{encoded, badBuffer, writeNumber, written}
 use Rattle.image.proofs.RoundTrips as Trips
-use Rattle.theorems.specs.Comes.{Comes, loaded, from-call}
+use Rattle.linux.proofs.ListTrips as ListTrips
+use Rattle.theorems.specs.Comes.{Comes, loaded, listed, from-call}
 use Rattle.theorems.specs.Demands
 use Rattle.theorems.specs.Histories.{
   Call,
@@ -70,6 +71,7 @@ call-sound s sound block = block-sound s sound
 
 pub comes-sound : Demands.ComesSound
 comes-sound s (loaded image bytes) = Trips.loaded-sound image bytes
+comes-sound s (listed list bytes) = ListTrips.read-sound list
 comes-sound s (from-call {s = before} c h) = call-sound before (comes-sound before h) c
 
 pub comes-well-formed : Demands.ComesWellFormed

@@ -4,6 +4,7 @@ pub mod Comes
 pub mod Conditions
 pub mod Demands
 pub mod Histories
+pub mod Lists
 pub mod Loads
 pub mod Spans
 pub mod StandIns
