@@ -1,8 +1,7 @@
 // What reading a table hands back, from an image or from a list.
 ghost use mathlib.Core.Path.{_≡_};
-ghost use Rattle.executive.specs.Reading.{refusedLoad, finishedLoad};
+ghost use Rattle.executive.specs.Reading.{refusedLoad};
 use crate::state::State;
-use table::numbers;
 
 // The state, the number, and the place of the record that was refused.
 pub struct Loaded {
@@ -20,20 +19,6 @@ impl Loaded {
             state: State::empty(),
             number,
             place,
-        }
-    }
-
-    // At the end of the records: 7 where there is no task.
-    pub fn finished(state: State, count: usize) -> Self
-        ensures { λ r. ⌜ r ≡ finishedLoad state count ⌝ }
-    {
-        if state.n == 0 {
-            return Loaded::refused(numbers::NO_TASK, count);
-        }
-        Self {
-            state,
-            number: numbers::DONE,
-            place: 0,
         }
     }
 }

@@ -6,6 +6,7 @@ ghost use lib.Dec.{eqb};
 ghost use lib.ListN.{length};
 ghost use Rattle.table.specs.Sums.{any};
 ghost use Rattle.table.specs.WellFormed.{taskBefore};
+ghost use Rattle.executive.specs.Reading.{finishedLoad};
 ghost use Rattle.image.specs.Loading.{loadOf, loadRecords, freshTable};
 ghost use Rattle.image.specs.Fronts.{frontOf, frontAfter, frontRefusal};
 use executive::loaded::Loaded;
@@ -81,7 +82,21 @@ fn load_records(image: &[u8]) -> Loaded
             Decoded::Refused(_) => {}
         }
     }
-    Loaded::finished(state, at / limits::RECORD)
+    finished(state, at / limits::RECORD)
+}
+
+// At the end of the records: 7 where there is no task.
+fn finished(state: State, count: usize) -> Loaded
+    ensures { λ r. ⌜ r ≡ finishedLoad state count ⌝ }
+{
+    if state.n == 0 {
+        return Loaded::refused(numbers::NO_TASK, count);
+    }
+    Loaded {
+        state,
+        number: numbers::DONE,
+        place: 0,
+    }
 }
 
 impl Front {

@@ -139,13 +139,13 @@ outside-says period cost = (there (leb 1000 period) (leb period 100000000) (leb 
         ap not
         (not-so ((leb 1000 period && leb period 100000000) && (leb 1 cost && leb cost period))
         (λ h.
-            let p = both-left (leb 1000 period && leb period 100000000) (leb 1 cost && leb cost period) h in
-            let c = both-right (leb 1000 period && leb period 100000000) (leb 1 cost && leb cost period) h in
-            let p1 = leb-true 1000 period (both-left (leb 1000 period) (leb period 100000000) p) in
-            let p2 = leb-true period 100000000 (both-right (leb 1000 period) (leb period 100000000) p) in
-            let c1 = leb-true 1 cost (both-left (leb 1 cost) (leb cost period) c) in
-            let c2 = leb-true cost period (both-right (leb 1 cost) (leb cost period) c) in
-            elim w [ inl a ↦ omega arith | inr v ↦ elim v [ inl b ↦ omega arith | inr u ↦ elim u [ inl d ↦ omega arith | inr e ↦ omega arith ] ] ]))
+        let p = both-left (leb 1000 period && leb period 100000000) (leb 1 cost && leb cost period) h in
+        let c = both-right (leb 1000 period && leb period 100000000) (leb 1 cost && leb cost period) h in
+        let p1 = leb-true 1000 period (both-left (leb 1000 period) (leb period 100000000) p) in
+        let p2 = leb-true period 100000000 (both-right (leb 1000 period) (leb period 100000000) p) in
+        let c1 = leb-true 1 cost (both-left (leb 1 cost) (leb cost period) c) in
+        let c2 = leb-true cost period (both-right (leb 1 cost) (leb cost period) c) in
+        elim w [ inl a ↦ omega arith | inr v ↦ elim v [ inl b ↦ omega arith | inr u ↦ elim u [ inl d ↦ omega arith | inr e ↦ omega arith ] ] ]))
 
 -- rounding has one answer
 up-one : (ns ticks : ℕ) → RoundsUp ns ticks → ticks ≡ ticksUp ns
@@ -222,7 +222,7 @@ given-when (r ∷ rest) tasks at g e k place =
     step-when (attrRefusal (length tasks) a) at (attrConditions at r) (readFrom after (suc at) rest) (ListGiven (suc at) rest k place) k place
     (subst (λ (n : ℕ). (j : ℕ) → (attrRefusal n a ≡ j) ↔ FirstThat (attrConditions at r) j) e (attr-when at r))
     (λ none. let more = length-inserted taskBefore (taskOf at a) tasks in
-        given-when rest after (suc at) (Trips.grown tasks at a g e (passed (length tasks) a none)) (omega arith) k place)
+    given-when rest after (suc at) (Trips.grown tasks at a g e (passed (length tasks) a none)) (omega arith) k place)
 
 pub list-when : Lists.ListWhen
 unfolding refusedLoad readRecords

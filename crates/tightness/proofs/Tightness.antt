@@ -92,6 +92,8 @@ use Rattle.executive.proofs.state.State.standing.Reads as standing
 use Rattle.executive.proofs.state.State.standing.Kinds as standing-kinds
 use Rattle.executive.proofs.state.State.empty.Reads as empty
 use Rattle.executive.proofs.state.State.empty.Kinds as empty-kinds
+use Rattle.executive.proofs.loaded.Loaded.refused.Reads as loaded-refused
+use Rattle.executive.proofs.loaded.Loaded.refused.Kinds as loaded-refused-kinds
 use Rattle.records.proofs.decode.Reads as decode
 use Rattle.records.proofs.decode.Kinds as decode-kinds
 use Rattle.records.proofs.put_task.Reads as record-put-task
@@ -104,6 +106,10 @@ use Rattle.image.proofs.load.load.Reads as load
 use Rattle.image.proofs.load.load.Kinds as load-kinds
 use Rattle.image.proofs.write.write.Reads as write
 use Rattle.image.proofs.write.write.Kinds as write-kinds
+use Rattle.linux.proofs.read.read.Reads as list-read
+use Rattle.linux.proofs.read.read.Kinds as list-read-kinds
+use Rattle.linux.proofs.write.write.Reads as list-write
+use Rattle.linux.proofs.write.write.Kinds as list-write-kinds
 use Rattle.charges.proofs.Counts.of.Reads as counts-of
 use Rattle.charges.proofs.Counts.of.Kinds as counts-of-kinds
 use Rattle.charges.proofs.Counts.charge.Reads as counts-charge
@@ -114,6 +120,10 @@ use Rattle.judging.proofs.judge.judge.Reads as judge
 use Rattle.judging.proofs.judge.judge.Kinds as judge-kinds
 use Rattle.report.proofs.report.Reads as report
 use Rattle.report.proofs.report.Kinds as report-kinds
+use Rattle.rack.proofs.export.rack_export.Reads as rack-export
+use Rattle.rack.proofs.export.rack_export.Kinds as rack-export-kinds
+use Rattle.rack.proofs.import.rack_import.Reads as rack-import
+use Rattle.rack.proofs.import.rack_import.Kinds as rack-import-kinds
 use Rattle.rack.proofs.play.play_one.Reads as play-one
 use Rattle.rack.proofs.play.play_one.Kinds as play-one-kinds
 use Rattle.rack.proofs.play.rack_play.Reads as rack-play
@@ -311,6 +321,10 @@ standing-one κs a z z′ e e′ p q = p ∙ sym q
 pub empty-one : OneResult 0 empty-kinds.ps empty-kinds.r empty.Post
 empty-one κs a z z′ e e′ p q = p ∙ sym q
 
+-- executive::loaded::Loaded::refused
+pub loaded-refused-one : OneResult 0 loaded-refused-kinds.ps loaded-refused-kinds.r loaded-refused.Post
+loaded-refused-one κs a z z′ e e′ p q = p ∙ sym q
+
 -- records::decode
 pub decode-one : OneResult 1 decode-kinds.ps decode-kinds.r decode.Post
 decode-one κs a z z′ e e′ p q = p ∙ sym q
@@ -338,6 +352,17 @@ write-one κs a z z′ e e′ p q = p .0 ∙ sym (q .0)
 pub write-buffer : OneAtExit 1 write-kinds.ps write-kinds.r write.Post (λ κs e. now (e .1 .0))
 write-buffer κs a z z′ e e′ p q = p .1 ∙ sym (q .1)
 
+-- linux::read::read
+pub list-read-one : OneResult 1 list-read-kinds.ps list-read-kinds.r list-read.Post
+list-read-one κs a z z′ e e′ p q = p ∙ sym q
+
+-- linux::write::write
+pub list-write-one : OneResult 1 list-write-kinds.ps list-write-kinds.r list-write.Post
+list-write-one κs a z z′ e e′ p q = p .0 ∙ sym (q .0)
+
+pub list-write-buffer : OneAtExit 1 list-write-kinds.ps list-write-kinds.r list-write.Post (λ κs e. now (e .1 .0))
+list-write-buffer κs a z z′ e e′ p q = p .1 ∙ sym (q .1)
+
 -- charges::Counts::of
 pub counts-of-one : OneResult 0 counts-of-kinds.ps counts-of-kinds.r counts-of.Post
 counts-of-one κs a z z′ e e′ p q = p ∙ sym q
@@ -360,6 +385,20 @@ report-one κs a z z′ e e′ p q = p .ends ∙ sym (q .ends)
 
 pub report-buffer : OneAtExit 2 report-kinds.ps report-kinds.r report.Post (λ κs e. now (e .1 .0))
 report-buffer κs a z z′ e e′ p q = p .contents ∙ sym (q .contents)
+
+-- rack::export::rack_export
+pub rack-export-one : OneResult 2 rack-export-kinds.ps rack-export-kinds.r rack-export.Post
+rack-export-one κs a z z′ e e′ p q = p .number ∙ sym (q .number)
+
+pub rack-export-list : OneAtExit 2 rack-export-kinds.ps rack-export-kinds.r rack-export.Post (λ κs e. now (e .1 .0))
+rack-export-list κs a z z′ e e′ p q = p .contents ∙ sym (q .contents)
+
+-- rack::import::rack_import
+pub rack-import-one : OneResult 2 rack-import-kinds.ps rack-import-kinds.r rack-import.Post
+rack-import-one κs a z z′ e e′ p q = p .number ∙ sym (q .number)
+
+pub rack-import-buffer : OneAtExit 2 rack-import-kinds.ps rack-import-kinds.r rack-import.Post (λ κs e. now (e .1 .0))
+rack-import-buffer κs a z z′ e e′ p q = p .contents ∙ sym (q .contents)
 
 -- rack::play::rack_play
 pub rack-play-one : OneResult 3 rack-play-kinds.ps rack-play-kinds.r rack-play.Post
