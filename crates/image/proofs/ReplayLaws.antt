@@ -4,33 +4,30 @@ use Prim.Native.Nat.{ℕ, zero, suc, _+_, _*_, _≤_}
 use mathlib.Core.Path.{_≡_, refl, sym, ap, _∙_, subst}
 use mathlib.Core.Bool.{Bool, true, false, cond, not}
 use mathlib.Core.List.{List, [], _∷_, _++_, map, append-assoc, append-nil}
-use native.Mathlib.Nat.{zero-add, suc-add, mul-suc, add-comm}
+use native.Mathlib.Nat.{zero-add, mul-suc, add-comm}
 use native.Mathlib.Omega.{arith}
 use lib.Dec.{eqb}
-use lib.ListN.{length, take, drop, replicate, length-append, length-drop, take-append-drop, replicate-append-replicate}
-use lib.Seq.{take-at, drop-at, append-snoc, length-take-le, getD-take, getD-drop}
-use borrow.Author.Tests.{eqb-true, eqb-false, eq-eqb, ne-eqb, le-ltb, lt-leb}
+use lib.ListN.{length, take, drop, replicate, length-append, take-append-drop, replicate-append-replicate}
+use lib.Seq.{take-at, drop-at, append-snoc, length-take-le}
+use borrow.Author.Tests.{eqb-true, eqb-false, le-ltb, lt-leb}
 use Rattle.table.specs.declared.Task.{Task}
 use Rattle.table.specs.declared.Sem.{Sem}
 use Rattle.table.specs.declared.Board.{Board}
 use Rattle.table.specs.Entries.{loadedTask, loadedSem}
-use Rattle.table.specs.Refusals.{firstOf, answered}
 use Rattle.table.specs.WellFormed.{taskInRange, semInRange, taskBefore, semBefore, usedOnce}
-use Rattle.table.proofs.RefusalLaws.{answered-refused, answered-done, firstOf-here, firstOf-past, firstOf-none}
-use Rattle.executive.specs.declared.state.State.{State}
 use Rattle.executive.specs.Tables.{Table, addTask, addSem, addBoard, stateOf}
 use Rattle.executive.proofs.TableLaws.{same-table}
 use Rattle.executive.proofs.ReadingLaws.{finished-some, accepted-end}
 use Rattle.fields.specs.Fields.{allAre, Bytes}
 use Rattle.fields.specs.Parts.{partsOf, flat}
 use Rattle.fields.proofs.ByteLaws.{all-replicate}
-use Rattle.fields.proofs.PartLaws.{nothing, flat-more, parts-flat}
+use Rattle.fields.proofs.PartLaws.{nothing, front-bytes, flat-more, parts-flat}
 use Rattle.records.specs.declared.Decoded.{Decoded}
 use Rattle.records.specs.declared.Decoded.the-variants.{Erased, TaskRecord, BoardRecord, SemRecord, Refused}
 use Rattle.records.specs.Records.{decoded, encodeTask, encodeBoard, encodeSem}
 use Rattle.records.proofs.RecordLaws.{Said, erased, task, board, sem, unknown, bad, said, decoded-task, decoded-board, decoded-sem, decoded-erased, length-task, length-board, length-sem}
 use Rattle.executive.specs.declared.loaded.Loaded.{Loaded}
-use Rattle.executive.specs.Reading.{refusedLoad, acceptedLoad, finishedLoad}
+use Rattle.executive.specs.Reading.{refusedLoad, acceptedLoad}
 use Rattle.image.specs.Loading.{freshTable, taken, erasedAfter, refusalOf, usedAfter, refusedAs, orderBroken, numberTwice, tooMany, loadFrom, recordsIn}
 use Rattle.image.specs.Writing.{encoded}
 use Rattle.image.proofs.LoadLaws.{load-go, load-stop, Passed, passed, passes}
@@ -235,17 +232,6 @@ accepted-record t e place r rest h = go (eqb (refusalOf e t (decoded r)) 0) refl
     go true z = eqb-true (refusalOf e t (decoded r)) 0 z
     go false z = sym (ap (λ (l : Loaded). l .number) (load-stop t e place r rest (eqb-false (refusalOf e t (decoded r)) 0 z))) ∙ h
 
--- the first record of some bytes, and those behind it
-front-bytes : (k : ℕ) (l : List ℕ) → length l ≡ 32 * suc k → Bytes l → (length (take 32 l) ≡ 32) × (Bytes (take 32 l)) × (length (drop 32 l) ≡ 32 * k) × (Bytes (drop 32 l))
-front-bytes k l n bytes =
-    let long : length (take 32 l) ≡ 32 = length-take-le 32 l (omega arith) in
-    let short : length (drop 32 l) ≡ 32 * k = length-drop 32 l ∙ omega arith in (
-      long,
-      (λ i h. rw (getD-take 32 l i 0 (omega arith)) (bytes i (omega arith))),
-      short,
-      (λ i h. rw (getD-drop 32 l i 0) (bytes (32 + i) (omega arith))),
-    )
-
 -- behind an erased record there are erased records only
 record Rest (t : Table) (k : ℕ) (l : List ℕ) (answer : Loaded) : Type 0 where
   some : 1 ≤ length (t .tasks)
@@ -294,7 +280,7 @@ unfolding partsOf loadFrom stateOf
 rest-of zero l t place n bytes h =
     let some = accepted-end (stateOf t) place h in record { some = some; bytes = nothing l n; same = finished-some (stateOf t) place some }
 rest-of (suc k) l t place n bytes h =
-    let parts = front-bytes k l n bytes in
+    let parts = front-bytes 32 k l n bytes in
     let r = take 32 l in
     rest-case k l t place n (decoded r) (said r (parts .0) (parts .1))
     (passed true t (decoded r) (accepted-record t true place r (recordsIn k (drop 32 l)) h))
@@ -373,7 +359,7 @@ module _ (k : ℕ) (l : List ℕ) (t : Table) (place : ℕ) where
       → Ended t l (answerFrom k l t place false)
   unfolding erasedAfter refusedAs
   ended-case g n bytes d e (erased all) p h others =
-      let parts = front-bytes k l n bytes in
+      let parts = front-bytes 32 k l n bytes in
       let rest = rest-more k l t place false n all (rest-of k (drop 32 l) t (suc place) (parts .2) (parts .3)) h in
       record { table = t; growing = g; some = rest .some; same = rest .same; gone = suc k; bytes = ap (λ (m : List ℕ). encoded t ++ m) (rest .bytes) }
   ended-case g n bytes (TaskRecord x) e (task same range loaded) p h others =
@@ -405,7 +391,7 @@ ended-of zero l t place g n bytes h =
       bytes = ap (λ (m : List ℕ). encoded t ++ m) (nothing l n);
     }
 ended-of (suc k) l t place g n bytes h =
-    let parts = front-bytes k l n bytes in
+    let parts = front-bytes 32 k l n bytes in
     let r = take 32 l in
     ended-case k l t place g n bytes (decoded r) refl (said r (parts .0) (parts .1))
     (passed false t (decoded r) (accepted-record t false place r (recordsIn k (drop 32 l)) h)) h

@@ -4,16 +4,15 @@ use Prim.Native.Nat.{ℕ, _+_, _-_, _*_, _≤_, _<_}
 use mathlib.Core.Path.{_≡_, refl, sym, ap, _∙_}
 use mathlib.Core.Logic.{_≢_}
 use mathlib.Core.Bool.{Bool, true, false, cond}
-use mathlib.Core.List.{List, [], _∷_, _++_, map, append-assoc, append-nil}
-use native.Mathlib.Numerals.{add-one}
+use mathlib.Core.List.{List, [], _∷_, _++_, map, append-nil}
 use native.Mathlib.Omega.{arith}
 use lib.Dec.{eqb}
-use lib.ListN.{length, getD, take, drop, replicate, length-append, length-drop, length-map, drop-of-length-le, List·getD-append, List·getD-map}
-use lib.Seq.{drop-drop, drop-length, take-all, take-at, drop-at, take-suc, length-take-le, getD-take, getD-append-add}
+use lib.ListN.{length, getD, take, drop, replicate, length-append, length-drop, length-map, List·getD-append, List·getD-map}
+use lib.Seq.{drop-length, length-take-le, getD-take, getD-append-add}
 use borrow.Author.Tests.{eq-eqb, ne-eqb, lt-ltb, le-ltb}
 use borrow.Rule.Slice.PartMut.{putMid}
 use Rattle.fields.specs.Parts.{flat}
-use Rattle.fields.proofs.PartLaws.{part-put, flat-append, length-flat, put-more}
+use Rattle.fields.proofs.PartLaws.{part-put, flat-append, length-flat}
 use Rattle.table.specs.declared.Board.{Board}
 use Rattle.table.specs.declared.Sem.{Sem}
 use Rattle.table.specs.declared.Task.{Task}
@@ -55,15 +54,6 @@ flat-entries s =
     ∙ (ap (λ (m : List ℕ). m ++ flat encodeEntry (map of-sem (semsOf s))) (flat-through encodeEntry of-task (tasksOf s))
     ∙ ap (λ (m : List ℕ). flat encodeTask (tasksOf s) ++ m) (flat-through encodeEntry of-sem (semsOf s)))
 
--- the first i records stand in the part, and behind them what stood there
-pub record Written (s : State) (whole part : List ℕ) (i : ℕ) : Type 0 where
-  pub inside : i ≤ s .n + s .m
-  pub bytes : part ≡ flat encodeEntry (take i (entriesOf s)) ++ drop (i * 32) whole
-
-pub written-start : (s : State) (whole : List ℕ) → Written s whole whole 0
-unfolding flat
-written-start s whole = record { inside = omega arith; bytes = refl }
-
 module _ (s : State) (z : Sized s) where
   count-tasks : length (map of-task (tasksOf s)) ≡ s .n
   unfolding tasksOf
@@ -93,38 +83,6 @@ module _ (s : State) (z : Sized s) where
       (ap (λ (j : ℕ). getD (entriesOf s) j (of-sem d)) place
       ∙ (getD-append-add (map of-task (tasksOf s)) (map of-sem (semsOf s)) (i - s .n) (of-sem d)
       ∙ (List·getD-map of-sem (semsOf s) (i - s .n) d ∙ ap of-sem (getD-take (s .m) (s .sems) (i - s .n) d (omega arith)))))
-
-  module _ (whole : List ℕ) (long : length whole ≡ 32 * (s .n + s .m)) (part : List ℕ) (i : ℕ) (w : Written s whole part i) where
-    pub written-long : length part ≡ 32 * (s .n + s .m)
-    written-long =
-        let n = length-flat encodeEntry 32 length-entry (take i (entriesOf s)) in
-        let m = length-take-le i (entriesOf s) (omega (arith, count-entries, w .inside)) in
-        ap length (w .bytes) ∙ (length-append (flat encodeEntry (take i (entriesOf s))) (drop (i * 32) whole) ∙ omega (arith, length-drop (i * 32) whole, w .inside))
-
-    pub written-end : s .n + s .m ≤ i → part ≡ flat encodeTask (tasksOf s) ++ flat encodeSem (semsOf s)
-    written-end h =
-        let all : take i (entriesOf s) ≡ entriesOf s = take-all i (entriesOf s) (omega (arith, count-entries)) in
-        let gone : drop (i * 32) whole ≡ [] = drop-of-length-le whole {i = i * 32} (omega arith) in
-        w .bytes
-        ∙ (ap (λ (l : List ℕ). flat encodeEntry (take i (entriesOf s)) ++ l) gone
-        ∙ (append-nil (flat encodeEntry (take i (entriesOf s))) ∙ (ap (flat encodeEntry) all ∙ flat-entries s)))
-
-    module _ (more : i < s .n + s .m) where
-      -- the part of the next record, and that record put into it
-      pub next-width : length (take (i * 32 + 32 - i * 32) (drop (i * 32) part)) ≡ 32
-      next-width =
-          length-take-le (i * 32 + 32 - i * 32) (drop (i * 32) part) (rw (length-drop (i * 32) part) (omega (arith, written-long))) ∙ omega arith
-
-      pub written-more : (d : Entry) (r : List ℕ) → r ≡ encodeEntry (getD (entriesOf s) i d)
-          → Written s whole (putMid (i * 32) (i * 32 + 32 - i * 32) part r) (i + 1)
-      written-more d r e =
-          let next : i * 32 + 32 ≡ (i + 1) * 32 = omega arith in
-          record {
-            inside = omega arith;
-            bytes =
-                put-more encodeEntry 32 length-entry (entriesOf s) d whole part r i (i * 32) (omega (arith, count-entries)) (omega arith) (w .bytes) e
-                ∙ ap (λ (k : ℕ). flat encodeEntry (take (i + 1) (entriesOf s)) ++ drop k whole) next;
-          }
 
 -- the board record has 32 bytes, or none
 pub length-board-part : (present : Bool) (b : Board) → length (cond present (encodeBoard b) []) ≡ cond present 32 0

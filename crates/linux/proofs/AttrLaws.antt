@@ -3,22 +3,21 @@
 -- Assumes nothing.
 use Prim.Native.Nat.{ℕ, suc, _+_, _*_, _/_, _%_, _≤_, _<_}
 use mathlib.Core.Path.{_≡_, refl, sym, ap, _∙_}
-use mathlib.Core.Logic.{_⊎_, inl, inr}
-use mathlib.Core.Bool.{Bool, true, false, cond, not, _&&_, _||_}
-use mathlib.Core.List.{List, [], _∷_, _++_, append-nil}
+use mathlib.Core.Logic.{inl, inr}
+use mathlib.Core.Bool.{Bool, true, false, cond, not, _||_}
+use mathlib.Core.List.{List, _++_, append-nil}
 use native.Mathlib.Omega.{arith}
-use lib.Dec.{eqb, leb}
-use lib.ListN.{length, drop, replicate, drop-of-length-le}
-use borrow.Author.Tests.{eqb-true, eq-eqb, ne-eqb, lt-leb, not-false}
+use lib.Dec.{eqb}
+use lib.ListN.{length, drop, drop-of-length-le}
+use borrow.Author.Tests.{eqb-true, eq-eqb, ne-eqb, lt-leb, not-false, eqb-false}
 use Rattle.fields.specs.Fields.{bytesOf, readAt, putAt, Bytes}
 use Rattle.fields.proofs.ByteLaws.{read-back, valueOf-bytesOf}
 use Rattle.table.specs.declared.Task.{Task}
 use Rattle.table.specs.declared.Status.the-variants.{Idle}
 use Rattle.table.specs.Entries.{loadedTask}
 use Rattle.table.specs.Refusals.{firstOf}
-use Rattle.table.specs.WellFormed.{within}
 use Rattle.table.proofs.OrderLaws.{TaskRange, DueRange, true-within}
-use Rattle.table.proofs.SumLaws.{both, neither}
+use Rattle.table.proofs.SumLaws.{neither}
 use Rattle.linux.specs.declared.read.Attr.{Attr}
 use Rattle.linux.specs.Attrs.{attrIn, ticksUp, ticksDown, periodOf, periodTicks, costTicks, badSize, otherPolicy, badTimes, attrRefusal, taskOf}
 use Rattle.linux.specs.Writing.{encodeAttr}
@@ -41,7 +40,7 @@ up-least ns = go (eqb (ns % 10) 0) refl
   where
     go : (b : Bool) → eqb (ns % 10) 0 ≡ b → (ns ≤ 10 * (ns / 10 + cond b 0 1)) × (10 * (ns / 10 + cond b 0 1) < ns + 10)
     go true e = let none = eqb-true (ns % 10) 0 e in (omega arith, omega arith)
-    go false e = let some = borrow.Author.Tests.eqb-false (ns % 10) 0 e in (omega arith, omega arith)
+    go false e = let some = eqb-false (ns % 10) 0 e in (omega arith, omega arith)
 
 pub down-most : (ns : ℕ) → (10 * ticksDown ns ≤ ns) × (ns < 10 * ticksDown ns + 10)
 unfolding ticksDown

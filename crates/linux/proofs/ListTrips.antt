@@ -6,7 +6,7 @@
 --     read-place                        a place is at most 64
 --     read-flat                         reading the records of tasks in DP1 that are numbered from 1 gives those tasks back
 -- Assumes nothing.
-use Prim.Native.Nat.{ℕ, zero, suc, _+_, _*_, _/_, _%_, _≤_, _<_}
+use Prim.Native.Nat.{ℕ, zero, suc, _+_, _/_, _%_, _≤_, _<_}
 use mathlib.Core.Path.{_≡_, refl, sym, ap, subst, _∙_}
 use mathlib.Core.Logic.{_≢_, _⊎_, inl, inr}
 use mathlib.Core.Bool.{Bool, true, false, _&&_, _||_, and-false}
@@ -23,13 +23,12 @@ use Rattle.table.specs.Entries.{blankTask, loadedTask}
 use Rattle.table.specs.Sums.{every}
 use Rattle.table.specs.WellFormed.{taskInRange, taskBefore, ordered}
 use Rattle.table.proofs.OrderLaws.{task-range, built-in-range, not-so}
-use Rattle.table.proofs.SumLaws.{both, both-left, both-right, every-at, every-append, any-map, none-any}
-use Rattle.executive.specs.declared.state.State.{State}
+use Rattle.table.proofs.SumLaws.{both, both-left, both-right, every-at, every-append, any-map, none-any, every-weaker}
 use Rattle.executive.specs.declared.loaded.Loaded.{Loaded}
-use Rattle.executive.specs.States.{emptyState, tasksOf}
+use Rattle.executive.specs.States.{emptyState}
 use Rattle.executive.specs.Sound.{Sound}
 use Rattle.executive.specs.Reading.{refusedLoad, acceptedLoad, finishedLoad}
-use Rattle.executive.specs.Tables.{Table, WellFormedTable, loadedTable, stateOf}
+use Rattle.executive.specs.Tables.{WellFormedTable, loadedTable, stateOf}
 use Rattle.executive.proofs.ReadingLaws.{finished-some, finished-none, accepted-end}
 use Rattle.executive.proofs.TableLaws.{same-table, state-sound, empty-sound}
 use Rattle.linux.specs.declared.read.Attr.{Attr}
@@ -38,7 +37,7 @@ use Rattle.linux.specs.Lists.{inserted, listTable, readFrom, readRecords
 use Rattle.linux.specs.Writing.{encodeAttr}
 use Rattle.linux.proofs.InsertLaws.{Has, has-new, has-old, has-back, length-inserted, inserted-last}
 use Rattle.linux.proofs.ColumnLaws.{again}
-use Rattle.linux.proofs.ListLaws.{every-weaker, Growing, growing-start, grow, Passed, passed, read-stop, read-go, read-odd, read-whole}
+use Rattle.linux.proofs.ListLaws.{Growing, growing-start, grow, Passed, passed, read-stop, read-go, read-odd, read-whole}
 use Rattle.linux.proofs.AttrLaws.{attrOf, attr-in, attr-passes, attr-task}
 use Rattle.linux.proofs.WriteLaws.{length-attr}
 

@@ -1,27 +1,23 @@
 -- The laws of writing a list.
 -- Assumes nothing.
-use Prim.Native.Nat.{ℕ, _+_, _-_, _*_, _≤_, _<_}
+use Prim.Native.Nat.{ℕ, _-_, _*_, _<_}
 use mathlib.Core.Path.{_≡_, refl, sym, ap, _∙_}
 use mathlib.Core.Logic.{_≢_}
-use mathlib.Core.Bool.{Bool, true, false, not, _||_}
-use mathlib.Core.List.{List, [], _∷_, _++_, append-nil}
+use mathlib.Core.Bool.{true, false, not}
+use mathlib.Core.List.{List, [], _∷_}
 use native.Mathlib.Omega.{arith}
 use lib.Dec.{eqb}
-use lib.ListN.{length, getD, take, drop, replicate, length-append, length-drop, drop-of-length-le}
-use lib.Seq.{take-all, length-take-le, getD-take}
+use lib.ListN.{length, getD, replicate}
+use lib.Seq.{getD-take}
 use borrow.Author.Tests.{eq-eqb, ne-eqb}
-use borrow.Rule.Slice.PartMut.{putMid}
 use Rattle.fields.specs.Fields.{bytesOf, putAt}
 use Rattle.fields.specs.Parts.{flat}
-use Rattle.fields.proofs.PartLaws.{length-flat, put-more}
 use Rattle.table.specs.declared.Task.{Task}
 use Rattle.table.specs.Sums.{any}
 use Rattle.table.proofs.RefusalLaws.{answered-refused, answered-done, firstOf-here, firstOf-past, firstOf-none}
 use Rattle.table.proofs.SumLaws.{either-right}
 use Rattle.executive.specs.declared.state.State.{State}
 use Rattle.executive.specs.States.{tasksOf}
-use Rattle.executive.specs.Sound.{Sized}
-use Rattle.executive.proofs.LookupLaws.{tasks-count}
 use Rattle.linux.specs.Writing.{encodeAttr, outsideDP1, noList, listNumber, listWritten}
 
 -- 48 zeros, with the fields of a task put into them, are the task's record
@@ -73,52 +69,7 @@ pub fits-list : (s : State) (bytes : ℕ) → any outsideDP1 (tasksOf s) ≡ fal
 unfolding noList
 fits-list s bytes h k = rw (h, eq-eqb bytes (48 * length (tasksOf s)) k)
 
--- the first i records stand in the list, and behind them what stood there
-pub record Written (s : State) (whole part : List ℕ) (i : ℕ) : Type 0 where
-  pub inside : i ≤ s .n
-  pub bytes : part ≡ flat encodeAttr (take i (tasksOf s)) ++ drop (i * 48) whole
-
-pub written-start : (s : State) (whole : List ℕ) → Written s whole whole 0
-unfolding flat
-written-start s whole = record { inside = omega arith; bytes = refl }
-
-module _ (s : State) (z : Sized s) where
-  abbrev count-tasks : length (tasksOf s) ≡ s .n
-  count-tasks = tasks-count s z
-
-  -- each stands where the state has it
-  pub task-here : (d : Task) (i : ℕ) → i < s .n → getD (s .tasks) i d ≡ getD (tasksOf s) i d
-  unfolding tasksOf
-  task-here d i h = sym (getD-take (s .n) (s .tasks) i d h)
-
-  module _ (whole : List ℕ) (long : length whole ≡ 48 * s .n) (part : List ℕ) (i : ℕ) (w : Written s whole part i) where
-    pub written-long : length part ≡ 48 * s .n
-    written-long =
-        let n = length-flat encodeAttr 48 length-attr (take i (tasksOf s)) in
-        let m = length-take-le i (tasksOf s) (omega (arith, count-tasks, w .inside)) in
-        ap length (w .bytes) ∙ (length-append (flat encodeAttr (take i (tasksOf s))) (drop (i * 48) whole) ∙ omega (arith, length-drop (i * 48) whole, w .inside))
-
-    pub written-end : s .n ≤ i → part ≡ flat encodeAttr (tasksOf s)
-    written-end h =
-        let all : take i (tasksOf s) ≡ tasksOf s = take-all i (tasksOf s) (omega (arith, count-tasks)) in
-        let gone : drop (i * 48) whole ≡ [] = drop-of-length-le whole {i = i * 48} (omega arith) in
-        w .bytes
-        ∙ (ap (λ (l : List ℕ). flat encodeAttr (take i (tasksOf s)) ++ l) gone ∙ (append-nil (flat encodeAttr (take i (tasksOf s))) ∙ ap (flat encodeAttr) all))
-
-    module _ (more : i < s .n) where
-      -- the part of the next record, and that record put into it
-      pub next-width : length (take (i * 48 + 48 - i * 48) (drop (i * 48) part)) ≡ 48
-      next-width =
-          length-take-le (i * 48 + 48 - i * 48) (drop (i * 48) part) (rw (length-drop (i * 48) part) (omega (arith, written-long))) ∙ omega arith
-
-      pub written-more : (d : Task) (r : List ℕ) → r ≡ encodeAttr (getD (s .tasks) i d)
-          → Written s whole (putMid (i * 48) (i * 48 + 48 - i * 48) part r) (i + 1)
-      written-more d r e =
-          let next : i * 48 + 48 ≡ (i + 1) * 48 = omega arith in
-          record {
-            inside = omega arith;
-            bytes =
-                put-more encodeAttr 48 length-attr (tasksOf s) d whole part r i (i * 48) (omega (arith, count-tasks)) (omega arith) (w .bytes)
-                (e ∙ ap encodeAttr (task-here d i more))
-                ∙ ap (λ (k : ℕ). flat encodeAttr (take (i + 1) (tasksOf s)) ++ drop k whole) next;
-          }
+-- each task stands where the state has it
+pub task-here : (s : State) (d : Task) (i : ℕ) → i < s .n → getD (s .tasks) i d ≡ getD (tasksOf s) i d
+unfolding tasksOf
+task-here s d i h = sym (getD-take (s .n) (s .tasks) i d h)

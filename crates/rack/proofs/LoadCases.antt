@@ -1,12 +1,11 @@
 -- What the boundary answers where a load is refused, and where it is not.
 -- Assumes nothing.
-use Prim.Native.Nat.{ℕ, zero, suc, _+_, _-_, _*_, _≤_, _<_}
-use mathlib.Core.Path.{_≡_, refl, sym, ap, subst, _∙_}
+use Prim.Native.Nat.{ℕ, _+_, _-_, _≤_, _<_}
+use mathlib.Core.Path.{_≡_, sym, ap, subst, _∙_}
 use mathlib.Core.Logic.{_≢_}
 use mathlib.Core.Bool.{Bool, cond}
-use mathlib.Core.List.{List, [], _∷_, _++_}
+use mathlib.Core.List.{List, _++_}
 use native.Mathlib.Nat.{zero-add}
-use lib.Dec.{eqb}
 use lib.ListN.{length, replicate}
 use lib.Seq.{sets}
 use borrow.Author.Tests.{lt-ltb, le-ltb, eq-eqb, ne-eqb}
@@ -18,16 +17,20 @@ use Rattle.executive.specs.declared.state.State.{State}
 use Rattle.executive.specs.States.{tasksOf}
 use Rattle.judging.specs.declared.Verdict.{Verdict}
 use Rattle.judging.specs.Verdicts.{verdictOf}
-use Rattle.rack.specs.Boundary.{headBytes, entriesBytes, acceptedBytes, judgedBytes, judgedAll, Judged}
+use Rattle.rack.specs.Boundary.{headBytes, entriesBytes, acceptedBytes, judgedBytes, judgedAll, Judged, ReadThenWritten}
 
--- what comes of a reading, refused or not: a number and the contents of a buffer
-module _ {A : Type 0} (read l : Loaded) (refused : Loaded → A) (done : State → A) (e : l ≡ read) where
-  pub told-refused : l .number ≢ 0 → refused l ≡ cond (eqb (read .number) 0) (done (read .state)) (refused read)
-  told-refused h =
-      subst (λ (x : Loaded). refused l ≡ cond (eqb (x .number) 0) (done (x .state)) (refused x)) e (rw (ne-eqb (l .number) 0 h))
+-- what comes of a reading, refused or not
+module _ (read l : Loaded) (refusal : Loaded → ℕ) (writeBy : State → ℕ → ℕ) (leaves : State → List ℕ → List ℕ) (before : List ℕ) (e : l ≡ read) where
+  pub read-refused : l .number ≢ 0 → (result : ℕ) → result ≡ refusal l → ReadThenWritten read (refusal read) writeBy leaves before before result
+  read-refused h result r =
+      subst (λ (x : Loaded). ReadThenWritten x (refusal x) writeBy leaves before before result) e
+      (record { contents = rw (ne-eqb (l .number) 0 h); number = rw (ne-eqb (l .number) 0 h) r })
 
-  pub told-done : l .number ≡ 0 → done (l .state) ≡ cond (eqb (read .number) 0) (done (read .state)) (refused read)
-  told-done h = subst (λ (x : Loaded). done (l .state) ≡ cond (eqb (x .number) 0) (done (x .state)) (refused x)) e (rw (eq-eqb (l .number) 0 h))
+  pub read-written : l .number ≡ 0 → (after : List ℕ) (result : ℕ) → result ≡ writeBy (l .state) (length before) → after ≡ leaves (l .state) before
+      → ReadThenWritten read (refusal read) writeBy leaves before after result
+  read-written h after result n c =
+      subst (λ (x : Loaded). ReadThenWritten x (refusal x) writeBy leaves before after result) e
+      (record { contents = rw (eq-eqb (l .number) 0 h) c; number = rw (eq-eqb (l .number) 0 h) n })
 
 -- a buffer that is too short is left as it was
 pub judged-short : (image before : List ℕ) → length before < 1032 → Judged image before before 0

@@ -9,7 +9,6 @@ use lib.Seq.{sets}
 use Rattle.fields.specs.Fields.{bytesOf, readAt}
 use Rattle.table.specs.declared.Board.{Board}
 use Rattle.table.specs.declared.Task.{Task}
-use Rattle.table.specs.Refusals.{answered}
 use Rattle.executive.specs.declared.state.State.{State}
 use Rattle.executive.specs.declared.calls.Moved.{Moved}
 use Rattle.executive.specs.declared.standing.Stands.{Stands}
@@ -69,25 +68,28 @@ pub record Judged (image before after : List ℕ) (result : ℕ) : Type 0 where
   pub contents : after ≡ cond (ltb (length before) 1032) before (sets before 0 (judgedAll (loadOf image)))
   pub number : result ≡ cond (ltb (length before) 1032) 0 (length (judgedBytes (loadOf image)))
 
+-- a table that was read is written to a buffer, and the write's number comes back; a refused reading leaves the buffer as it was, and tells
+-- its refusal
+pub record ReadThenWritten (read : Loaded) (refusal : ℕ) (writeBy : State → ℕ → ℕ) (leaves : State → List ℕ → List ℕ) (before after : List ℕ)
+    (result : ℕ) : Type 0 where
+  pub contents : after ≡ cond (eqb (read .number) 0) (leaves (read .state) before) before
+  pub number : result ≡ cond (eqb (read .number) 0) (writeBy (read .state) (length before)) refusal
+
 -- rack_rewrite: the load's number if it is not 0, else the write's number
-pub record Rewritten (image before after : List ℕ) (result : ℕ) : Type 0 where
-  pub contents : after ≡ cond (eqb ((loadOf image) .number) 0) (written ((loadOf image) .state) before) before
-  pub number :
-      result ≡ cond (eqb ((loadOf image) .number) 0) (writeNumber ((loadOf image) .state) (length before)) ((loadOf image) .number)
+abbrev pub Rewritten : List ℕ → List ℕ → List ℕ → ℕ → Type 0
+Rewritten image = ReadThenWritten (loadOf image) ((loadOf image) .number) writeNumber written
 
 -- a refusal and its place in one number
 unfoldable pub told : Loaded → ℕ
 told l = l .number + 256 * l .place
 
--- rack_import: a refused list returns number + 256 * place; else the write's number. The table is written as an image
-pub record Imported (list before after : List ℕ) (result : ℕ) : Type 0 where
-  pub contents : after ≡ cond (eqb ((readOf list) .number) 0) (written ((readOf list) .state) before) before
-  pub number : result ≡ cond (eqb ((readOf list) .number) 0) (writeNumber ((readOf list) .state) (length before)) (told (readOf list))
+-- rack_import: a refused list returns number + 256 * place; else its table is written as an image
+abbrev pub Imported : List ℕ → List ℕ → List ℕ → ℕ → Type 0
+Imported list = ReadThenWritten (readOf list) (told (readOf list)) writeNumber written
 
--- rack_export: a refused image returns number + 256 * place; else the write's number. The table is written as a list
-pub record Exported (image before after : List ℕ) (result : ℕ) : Type 0 where
-  pub contents : after ≡ cond (eqb ((loadOf image) .number) 0) (listWritten ((loadOf image) .state) before) before
-  pub number : result ≡ cond (eqb ((loadOf image) .number) 0) (listNumber ((loadOf image) .state) (length before)) (told (loadOf image))
+-- rack_export: a refused image returns number + 256 * place; else its table is written as a list
+abbrev pub Exported : List ℕ → List ℕ → List ℕ → ℕ → Type 0
+Exported image = ReadThenWritten (loadOf image) (told (loadOf image)) listNumber listWritten
 
 -- rack_play: the call that the record of 16 bytes at a place names: 0 the call, 2..3 a task's or semaphore's number, 8..15 a time
 unfoldable pub calledBy : State → List ℕ → ℕ → Moved

@@ -86,6 +86,13 @@ module _ {A : Type 0} where
   every-at test (x ∷ xs) h zero k d = both-left (test x) (every test xs) h
   every-at test (x ∷ xs) h (suc i) k d = every-at test xs (both-right (test x) (every test xs) h) i (le-of-suc-le-suc k) d
 
+  -- a weaker test holds of every entry too
+  pub every-weaker : (p q : A → Bool) → ((x : A) → p x ≡ true → q x ≡ true) → (l : List A) → every p l ≡ true → every q l ≡ true
+  unfolding every
+  every-weaker p q so [] h = refl
+  every-weaker p q so (x ∷ xs) h =
+      both (q x) (every q xs) (so x (both-left (p x) (every p xs) h)) (every-weaker p q so xs (both-right (p x) (every p xs) h))
+
   pub every-append : (test : A → Bool) (xs ys : List A) → every test (xs ++ ys) ≡ (every test xs && every test ys)
   unfolding every
   every-append test [] ys = refl
@@ -126,13 +133,13 @@ module _ {A : Type 0} where
   none-any test [] d h = refl
   none-any test (x ∷ xs) d h = rw (h 0 (omega arith)) (none-any test xs d (λ i k. h (suc i) (omega arith)))
 
--- a test of what a function makes of the entries
 -- an entry of a list of numbers that was worked out entry by entry
 pub at-map : {A : Type 0} (f : A → ℕ) (l : List A) (j : ℕ) (d : A) → j < length l → getD (map f l) j 0 ≡ f (getD l j d)
 at-map f [] j d h = absurd (not-suc-le-zero h)
 at-map f (x ∷ xs) zero d h = refl
 at-map f (x ∷ xs) (suc j) d h = at-map f xs j d (le-of-suc-le-suc h)
 
+-- a test of what a function makes of the entries
 pub any-map : {A B : Type 0} (f : A → B) (test : B → Bool) (l : List A) → any test (map f l) ≡ any (λ x. test (f x)) l
 unfolding any
 any-map f test [] = refl

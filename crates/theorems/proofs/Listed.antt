@@ -1,45 +1,42 @@
 -- The sentences of 02, b), shown: each statement of specs/Lists.antt under its name in lower case.
 -- Assumes nothing.
-use Prim.Native.Nat.{ℕ, zero, suc, _+_, _-_, _*_, _/_, _%_, _≤_, _<_}
+use Prim.Native.Nat.{ℕ, suc, _+_, _-_, _*_, _/_, _%_, _≤_, _<_}
 use mathlib.Core.Path.{_≡_, refl, sym, ap, subst, _∙_}
 use mathlib.Core.Logic.{_↔_, _≢_, _⊎_, inl, inr}
 use mathlib.Core.Bool.{Bool, true, false, cond, not, _&&_, _||_}
 use mathlib.Core.List.{List, [], _∷_, _++_, map}
-use native.Mathlib.Nat.{zero-add}
+use native.Mathlib.Nat.{zero-add, not-suc-le-zero}
 use native.Mathlib.Numerals.{add-one}
 use native.Mathlib.Omega.{arith}
 use lib.Dec.{eqb, leb}
-use lib.ListN.{length, getD, take, drop, length-map, length-drop}
-use lib.Seq.{length-take-le, getD-take, getD-drop}
-use borrow.Author.Tests.{eqb-true, eqb-false, eq-eqb, ne-eqb, leb-true, leb-false, le-leb, lt-leb, not-true, not-false}
-use Rattle.fields.specs.Fields.{readAt, putAt, Bytes}
-use Rattle.fields.specs.Parts.{partsOf, flat}
-use Rattle.fields.proofs.PartLaws.{nothing, length-parts}
+use lib.ListN.{length, getD}
+use borrow.Author.Tests.{eqb-true, eqb-false, eq-eqb, ne-eqb, leb-true, leb-false, le-leb, not-true, not-false}
+use Rattle.fields.specs.Fields.{putAt, Bytes}
+use Rattle.fields.specs.Parts.{flat}
+use Rattle.fields.proofs.PartLaws.{nothing, length-parts, parts-bytes}
 use Rattle.table.specs.declared.Task.{Task}
-use Rattle.table.specs.declared.Sem.{Sem}
-use Rattle.table.specs.Entries.{blankTask, builtIn, loadedTask, loadedSem}
-use Rattle.table.specs.Refusals.{firstOf}
+use Rattle.table.specs.Entries.{blankTask, loadedTask, loadedSem}
 use Rattle.table.specs.Sums.{any}
-use Rattle.table.specs.WellFormed.{within, taskInRange, taskBefore}
-use Rattle.table.proofs.OrderLaws.{within-true, true-within, not-so}
+use Rattle.table.specs.WellFormed.{within, taskBefore}
+use Rattle.table.proofs.OrderLaws.{not-so}
 use Rattle.table.proofs.RefusalLaws.{answered-refused}
-use Rattle.table.proofs.SumLaws.{both, both-left, both-right, either-right, none-any, every-at}
+use Rattle.table.proofs.SumLaws.{both-left, both-right, either-right, none-any, every-at}
 use Rattle.waits.specs.Waits.{taskAt}
 use Rattle.executive.specs.declared.state.State.{State}
 use Rattle.executive.specs.declared.loaded.Loaded.{Loaded}
 use Rattle.executive.specs.States.{tasksOf, semsOf}
 use Rattle.executive.specs.Sound.{Sound}
 use Rattle.executive.specs.Reading.{refusedLoad, acceptedLoad}
-use Rattle.executive.specs.Tables.{Table, loadedTable, stateOf, tableOf, asLoaded}
+use Rattle.executive.specs.Tables.{loadedTable, stateOf, tableOf}
 use Rattle.executive.proofs.LookupLaws.{tasks-count, sems-count}
-use Rattle.executive.proofs.TableLaws.{same-table, state-tasks, state-sems, as-loaded, state-sound}
+use Rattle.executive.proofs.TableLaws.{same-table, state-tasks, as-loaded, state-sound}
 use Rattle.linux.specs.declared.read.Attr.{Attr}
 use Rattle.linux.specs.Attrs.{attrIn, ticksUp, ticksDown, periodOf, periodTicks, costTicks, badSize, otherPolicy, badTimes, attrRefusal, taskOf}
 use Rattle.linux.specs.Lists.{inserted, listTable, readFrom, readRecords, readOf}
 use Rattle.linux.specs.Writing.{encodeAttr, outsideDP1, noList, listNumber, listWritten}
-use Rattle.linux.proofs.AttrLaws.{up-least, down-most, rawOf, raw-back, raw-times, task-raw}
-use Rattle.linux.proofs.InsertLaws.{Has, length-inserted}
-use Rattle.linux.proofs.ListLaws.{lower, Growing, growing-start, grow, Passed, passed, Times, times-of, read-odd, read-whole}
+use Rattle.linux.proofs.AttrLaws.{up-least, down-most, raw-back, raw-times, task-raw}
+use Rattle.linux.proofs.InsertLaws.{length-inserted}
+use Rattle.linux.proofs.ListLaws.{lower, Growing, growing-start, Passed, passed, Times, times-of, read-odd, read-whole}
 use Rattle.linux.proofs.ListTrips as Trips
 use Rattle.linux.proofs.WriteLaws.{list-done, fits-list}
 use Rattle.theorems.specs.Lists
@@ -328,7 +325,7 @@ list-table list h = subst (ListedTable list) (sym (ap (λ (l : Loaded). l .state
               (w .0, omega arith, is place (omega (arith, count)) _ (ap (λ (l : List Task). getD l (w .0) blankTask) all ∙ w .2));
           no-other = λ i less.
               elim (e .from (getD (e .all) i blankTask) (i, less, refl)) [
-                | inl none ↦ absurd (native.Mathlib.Nat.not-suc-le-zero (none .1))
+                | inl none ↦ absurd (not-suc-le-zero (none .1))
                 | inr w ↦ let inside = w .1 in
                     (w .0, omega (arith, count), is (w .0) (w .1) _ (ap (λ (l : List Task). getD l i blankTask) all ∙ w .2))
               ];
@@ -365,18 +362,6 @@ unfolding flat
 flat-same f g d [] h = refl
 flat-same f g d (x ∷ xs) h =
     ap (λ (m : List ℕ). m ++ flat f xs) (h 0 (omega arith)) ∙ ap (λ (m : List ℕ). g x ++ m) (flat-same f g d xs (λ i k. h (suc i) (omega arith)))
-
--- each record of a list has its width, and bytes
-parts-bytes : (count : ℕ) (l : List ℕ) → length l ≡ 48 * count → Bytes l → (i : ℕ) → i < count
-    → (length (getD (partsOf 48 count l) i []) ≡ 48) × Bytes (getD (partsOf 48 count l) i [])
-unfolding partsOf
-parts-bytes zero l n bytes i h = absurd (native.Mathlib.Nat.not-suc-le-zero h)
-parts-bytes (suc count) l n bytes zero h =
-    let long : length (take 48 l) ≡ 48 = length-take-le 48 l (omega arith) in
-    (long, λ j k. rw (getD-take 48 l j 0 (omega arith)) (bytes j (omega arith)))
-parts-bytes (suc count) l n bytes (suc i) h =
-    let short : length (drop 48 l) ≡ 48 * count = length-drop 48 l ∙ omega arith in
-    parts-bytes count (drop 48 l) short (λ j k. rw (getD-drop 48 l j 0) (bytes (48 + j) (omega arith))) i (native.Mathlib.Nat.le-of-suc-le-suc h)
 
 -- a record that is not refused, written again: it, with its times rounded
 record-again : (place : ℕ) (r : List ℕ) → length r ≡ 48 → Bytes r → Passed place (attrIn r)
@@ -429,7 +414,7 @@ write-after-read list bytes h buffer long =
     same : (i : ℕ) → i < length (e .all) → encodeAttr (getD (e .all) i blankTask) ≡ again (getD (e .all) i blankTask)
     same i less =
         elim (e .from (getD (e .all) i blankTask) (i, less, refl)) [
-          | inl none ↦ absurd (native.Mathlib.Nat.not-suc-le-zero (none .1))
+          | inl none ↦ absurd (not-suc-le-zero (none .1))
           | inr w ↦ at-place (w .0) (w .1) (getD (e .all) i blankTask) (w .2)
         ]
       where
@@ -439,7 +424,7 @@ write-after-read list bytes h buffer long =
             let r = getD (recordsOf list) place [] in
             let t0 = taskOf place (attrIn r) in
             let task : t ≡ t0 = so ∙ ap (λ (k : ℕ). taskOf k (attrIn r)) (zero-add place) in
-            let parts = parts-bytes (length list / 48) list whole bytes place (omega (arith, length-parts 48 (length list / 48) list)) in
+            let parts = parts-bytes 48 (length list / 48) list whole bytes place (omega (arith, length-parts 48 (length list / 48) list)) in
             let p = subst (λ (k : ℕ). Passed k (attrIn r)) (zero-add place) (e .each place inside) in
             let there : place ≡ t0 .number - 1 = number-less place (attrIn r) in
             ap encodeAttr task

@@ -1,41 +1,55 @@
 -- `image::write::put_entries` meets its contract: after i turns the first i records stand there, and behind them what stood there.
 -- Assumes nothing.
-use Prim.Native.Nat.{ℕ, _+_, _-_, _*_}
-use mathlib.Core.Path.{_≡_, sym, ap, _∙_}
+use Prim.Native.Nat.{ℕ, _+_, _-_, _*_, _<_}
+use mathlib.Core.Path.{_≡_, ap, _∙_}
 use mathlib.Core.List.{List}
 use native.Mathlib.Omega.{arith}
 use denote.Ref.{now}
 use lib.ListN.{length, take, drop, getD}
 use borrow.Rule.Slice.PartMut.{putMid}
-use Rattle.image.proofs.WriteLaws.{Entry, of-task, of-sem, encodeEntry, entriesOf, entry-task, entry-sem, Written, written-start, written-long, written-end, next-width, written-more}
+use Rattle.fields.proofs.PartLaws.{Filled, filled-start, filled-long, filled-end, next-width, filled-more}
+use Rattle.image.proofs.WriteLaws.{Entry, of-task, of-sem, encodeEntry, length-entry, entriesOf, flat-entries, count-entries, entry-task, entry-sem}
 use Rattle.image.proofs.write.put_entries.Statement.{statement}
 use Rattle.image.proofs.write.put_entries.Tie as tie
 
 abbrev Inv-loop : tie.InvT-loop
-Inv-loop part₀ state n count next₀ part next = Written state part₀ part next
+Inv-loop part₀ state n count next₀ part next = Filled encodeEntry 32 length-entry (entriesOf state) part₀ part next
 
 abbrev μ-loop : tie.MeasureT-loop
 μ-loop part₀ state n count next₀ part next = count - next
 
--- a turn: how long the part is, that of the next record, and what stands there once it is put
+-- a turn: how long the whole part is, that a record is left, and how long the part is as it is
+whole : (c : tie.In-loop Inv-loop μ-loop) → length (now (c .before .before .before .args .part)) ≡ 32 * length (entriesOf (c .before .before .before .args .t1))
+whole c = let p = c .before .before .before in p .pre .1 ∙ omega (arith, count-entries (p .args .t1) (p .pre .0))
+
+left : (c : tie.In-loop Inv-loop μ-loop) → c .before .loop .next < length (entriesOf (c .before .before .before .args .t1))
+left c = let p = c .before .before .before in omega (arith, count-entries (p .args .t1) (p .pre .0), c .loop-test .taken)
+
 long : (c : tie.In-loop Inv-loop μ-loop) → length (c .before .loop .part) ≡ 32 * (c .before .before .before .args .t1 .n + c .before .before .before .args .t1 .m)
-long c = written-long (c .before .before .before .args .t1) (c .before .before .before .pre .0) (now (c .before .before .before .args .part)) (c .before .before .before .pre .1) (c .before .loop .part) (c .before .loop .next) (c .before .loop .inv)
+long c =
+    let p = c .before .before .before in
+    filled-long encodeEntry 32 length-entry (entriesOf (p .args .t1)) (now (p .args .part)) (whole c) (c .before .loop .part) (c .before .loop .next) (c .before .loop .inv)
+    ∙ p .pre .1
 
 width : (c : tie.In-loop Inv-loop μ-loop)
     → length (take (c .before .loop .next * 32 + 32 - c .before .loop .next * 32) (drop (c .before .loop .next * 32) (c .before .loop .part))) ≡ 32
-width c = next-width (c .before .before .before .args .t1) (c .before .before .before .pre .0) (now (c .before .before .before .args .part)) (c .before .before .before .pre .1) (c .before .loop .part) (c .before .loop .next) (c .before .loop .inv) (c .loop-test .taken)
+width c =
+    let p = c .before .before .before in
+    next-width encodeEntry 32 length-entry (entriesOf (p .args .t1)) (now (p .args .part)) (whole c) (c .before .loop .part) (c .before .loop .next) (c .before .loop .inv) (left c)
 
 more : (c : tie.In-loop Inv-loop μ-loop) (d : Entry) (r : List ℕ) → r ≡ encodeEntry (getD (entriesOf (c .before .before .before .args .t1)) (c .before .loop .next) d)
-    → Written (c .before .before .before .args .t1) (now (c .before .before .before .args .part))
+    → Filled encodeEntry 32 length-entry (entriesOf (c .before .before .before .args .t1)) (now (c .before .before .before .args .part))
     (putMid (c .before .loop .next * 32) (c .before .loop .next * 32 + 32 - c .before .loop .next * 32) (c .before .loop .part) r) (c .before .loop .next + 1)
-more c = written-more (c .before .before .before .args .t1) (c .before .before .before .pre .0) (now (c .before .before .before .args .part)) (c .before .before .before .pre .1) (c .before .loop .part) (c .before .loop .next) (c .before .loop .inv) (c .loop-test .taken)
+more c =
+    let p = c .before .before .before in
+    filled-more encodeEntry 32 length-entry (entriesOf (p .args .t1)) (now (p .args .part)) (whole c) (c .before .loop .part) (c .before .loop .next) (c .before .loop .inv) (left c)
 
 add-count : tie.Need-add-count Inv-loop μ-loop
 add-count c = omega (arith, c .before .pre .0 .tasksFit, c .before .pre .0 .semsFit)
 
 loop-holds : tie.Need-loop-holds Inv-loop μ-loop
 loop-holds c =
-    written-start (c .before .args .t1) (now (c .before .args .part))
+    filled-start encodeEntry 32 length-entry (entriesOf (c .before .args .t1)) (now (c .before .args .part))
 
 mul-at : tie.Need-mul-at Inv-loop μ-loop
 mul-at c =
@@ -106,12 +120,16 @@ loop-again-2 c =
 same-length : tie.Need-same-length Inv-loop μ-loop
 same-length c =
     let p = c .before .before .before in
-    written-long (p .args .t1) (p .pre .0) (now (p .args .part)) (p .pre .1) (c .before .loop .part) (c .before .loop .next) (c .before .loop .inv) ∙ sym (p .pre .1)
+    filled-long encodeEntry 32 length-entry (entriesOf (p .args .t1)) (now (p .args .part)) (p .pre .1 ∙ omega (arith, count-entries (p .args .t1) (p .pre .0)))
+    (c .before .loop .part) (c .before .loop .next) (c .before .loop .inv)
 
 returns : tie.Need-returns Inv-loop μ-loop
 returns c =
     let p = c .before .before .before in
-    written-end (p .args .t1) (p .pre .0) (now (p .args .part)) (p .pre .1) (c .before .loop .part) (c .before .loop .next) (c .before .loop .inv) (c .loop-test .left)
+    let count = count-entries (p .args .t1) (p .pre .0) in
+    filled-end encodeEntry 32 length-entry (entriesOf (p .args .t1)) (now (p .args .part)) (p .pre .1 ∙ omega arith) (c .before .loop .part) (c .before .loop .next)
+    (c .before .loop .inv) (omega (arith, c .loop-test .left))
+    ∙ flat-entries (p .args .t1)
 
 pub put-entries-spec : {M : Type 1} → statement M
 put-entries-spec =

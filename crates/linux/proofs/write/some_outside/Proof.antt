@@ -4,7 +4,7 @@ use Prim.Native.Nat.{_+_, _-_, _≤_}
 use mathlib.Core.Path.{_≡_, refl, sym, ap, _∙_}
 use mathlib.Core.Bool.{Bool, not, _||_}
 use native.Mathlib.Omega.{arith}
-use lib.ListN.{length, getD, drop}
+use lib.ListN.{getD, drop}
 use borrow.Author.Tests.{eq-eqb, ne-eqb}
 use Rattle.table.specs.declared.Task.{Task}
 use Rattle.table.specs.Sums.{any}
@@ -41,7 +41,7 @@ step c d =
     let z = c .before .before .pre in
     let i = c .before .loop .i in
     any-more outsideDP1 (tasksOf s) i d (omega (arith, tasks-count s z))
-    ∙ ap (λ (t : Task). outsideDP1 t || any outsideDP1 (drop (i + 1) (tasksOf s))) (sym (task-here s z d i (c .loop-test .taken)))
+    ∙ ap (λ (t : Task). outsideDP1 t || any outsideDP1 (drop (i + 1) (tasksOf s))) (sym (task-here s d i (c .loop-test .taken)))
 
 returns : tie.Need-returns Inv-loop μ-loop
 unfolding outsideDP1

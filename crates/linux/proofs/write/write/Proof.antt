@@ -1,7 +1,6 @@
 -- `linux::write::write` meets its contract: 7, then 43, and each refusal leaves the list as it was.
 -- Assumes nothing.
-use Prim.Native.Nat.{_*_}
-use mathlib.Core.Path.{_≡_, sym, ap, _∙_}
+use mathlib.Core.Path.{sym, _∙_}
 use native.Mathlib.Omega.{arith}
 use denote.Ref.{now}
 use lib.ListN.{length}

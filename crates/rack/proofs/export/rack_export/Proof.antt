@@ -1,16 +1,15 @@
 -- `rack::export::rack_export` meets its contract: a refused image leaves the list, any other is written as one.
 -- Assumes nothing.
 use Prim.Native.Nat.{_≤_}
-use mathlib.Core.Path.{_≡_, sym, ap, subst, _∙_}
+use mathlib.Core.Path.{sym, subst}
 use denote.Ref.{now}
-use lib.ListN.{length}
 use borrow.Author.Needs.{needs}
 use Rattle.executive.specs.declared.loaded.Loaded.{Loaded}
 use Rattle.image.specs.Loading.{loadOf}
 use Rattle.image.proofs.RoundTrips.{sound-of, load-place}
 use Rattle.linux.specs.Writing.{listNumber, listWritten}
 use Rattle.rack.specs.Boundary.{told}
-use Rattle.rack.proofs.LoadCases.{told-refused, told-done}
+use Rattle.rack.proofs.LoadCases.{read-refused, read-written}
 use Rattle.rack.proofs.export.rack_export.Statement.{statement}
 use Rattle.rack.proofs.export.rack_export.Tie as tie
 
@@ -25,15 +24,9 @@ told-requires c κs =
 returns : tie.Need-returns
 unfolding told
 returns c =
-    let a = c .before .before .before .before .before .args in
-    let l = c .before .before .load in
-    let said = c .before .if1 .taken in
-    record {
-      contents = told-refused (loadOf (now (a .image))) (l .result) (λ r. now (a .list)) (λ s. listWritten s (now (a .list))) (l .ensures) said;
-      number =
-          c .told .ensures
-          ∙ told-refused (loadOf (now (a .image))) (l .result) told (λ s. listNumber s (length (now (a .list)))) (l .ensures) said;
-    }
+    let l = c .before .before in
+    let a = l .before .before .before .args in
+    read-refused (loadOf (now (a .image))) (l .load .result) told listNumber listWritten (now (a .list)) (l .load .ensures) (c .before .if1 .taken) _ (c .told .ensures)
 
 write-requires : tie.Need-write-requires
 write-requires c κs =
@@ -50,16 +43,9 @@ returns-2 : tie.Need-returns-2
 returns-2 c =
     let l = c .before .before .before .before .before .before in
     let a = l .before .before .before .args in
-    let said = c .before .before .before .before .before .if1 .left in
     let w = c .before .before .write in
-    record {
-      contents =
-          w .ensures .1
-          ∙ told-done (loadOf (now (a .image))) (l .load .result) (λ r. now (a .list)) (λ s. listWritten s (now (a .list))) (l .load .ensures) said;
-      number =
-          w .ensures .0
-          ∙ told-done (loadOf (now (a .image))) (l .load .result) told (λ s. listNumber s (length (now (a .list)))) (l .load .ensures) said;
-    }
+    read-written (loadOf (now (a .image))) (l .load .result) told listNumber listWritten (now (a .list)) (l .load .ensures)
+    (c .before .before .before .before .before .if1 .left) (w .last .1 .0) _ (w .ensures .0) (w .ensures .1)
 
 pub rack-export-spec : {M : Type 1} → statement M
 rack-export-spec =

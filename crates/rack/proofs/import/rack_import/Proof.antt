@@ -1,11 +1,10 @@
 -- `rack::import::rack_import` meets its contract: a refused list leaves the buffer, any other is written as an image.
 -- Assumes nothing.
 use Prim.Native.Nat.{ℕ, _≤_}
-use mathlib.Core.Path.{_≡_, sym, ap, subst, _∙_}
+use mathlib.Core.Path.{sym, subst}
 use mathlib.Core.List.{List}
 use native.Mathlib.Omega.{arith}
 use denote.Ref.{now}
-use lib.ListN.{length}
 use borrow.Author.Needs.{needs}
 use Rattle.executive.specs.declared.loaded.Loaded.{Loaded}
 use Rattle.executive.specs.Sound.{Sound}
@@ -13,7 +12,7 @@ use Rattle.image.specs.Writing.{writeNumber, written}
 use Rattle.linux.specs.Lists.{readOf}
 use Rattle.linux.proofs.ListTrips.{read-sound, read-place}
 use Rattle.rack.specs.Boundary.{told}
-use Rattle.rack.proofs.LoadCases.{told-refused, told-done}
+use Rattle.rack.proofs.LoadCases.{read-refused, read-written}
 use Rattle.rack.proofs.import.rack_import.Statement.{statement}
 use Rattle.rack.proofs.import.rack_import.Tie as tie
 
@@ -32,15 +31,9 @@ told-requires c κs =
 returns : tie.Need-returns
 unfolding told
 returns c =
-    let a = c .before .before .before .before .before .args in
-    let l = c .before .before .read in
-    let said = c .before .if1 .taken in
-    record {
-      contents = told-refused (readOf (now (a .list))) (l .result) (λ r. now (a .buf)) (λ s. written s (now (a .buf))) (l .ensures) said;
-      number =
-          c .told .ensures
-          ∙ told-refused (readOf (now (a .list))) (l .result) told (λ s. writeNumber s (length (now (a .buf)))) (l .ensures) said;
-    }
+    let l = c .before .before in
+    let a = l .before .before .before .args in
+    read-refused (readOf (now (a .list))) (l .read .result) told writeNumber written (now (a .buf)) (l .read .ensures) (c .before .if1 .taken) _ (c .told .ensures)
 
 write-requires : tie.Need-write-requires
 write-requires c κs =
@@ -57,16 +50,9 @@ returns-2 : tie.Need-returns-2
 returns-2 c =
     let l = c .before .before .before .before .before .before in
     let a = l .before .before .before .args in
-    let said = c .before .before .before .before .before .if1 .left in
     let w = c .before .before .write in
-    record {
-      contents =
-          w .ensures .1
-          ∙ told-done (readOf (now (a .list))) (l .read .result) (λ r. now (a .buf)) (λ s. written s (now (a .buf))) (l .read .ensures) said;
-      number =
-          w .ensures .0
-          ∙ told-done (readOf (now (a .list))) (l .read .result) told (λ s. writeNumber s (length (now (a .buf)))) (l .read .ensures) said;
-    }
+    read-written (readOf (now (a .list))) (l .read .result) told writeNumber written (now (a .buf)) (l .read .ensures)
+    (c .before .before .before .before .before .if1 .left) (w .last .1 .0) _ (w .ensures .0) (w .ensures .1)
 
 pub rack-import-spec : {M : Type 1} → statement M
 rack-import-spec =
