@@ -52,7 +52,7 @@ pub const RING: u8 = 28;
 
 pub const NOT_HELD: u8 = 29;
 
-// Lists from Linux rigs (document 02, b)): a length or a size field, the policy, the times; and a state that is no list.
+// Lists from Linux rigs (document 02, b)): a length or a size field; the policy; the times; a state that is no list.
 pub const LIST_SIZE: u8 = 40;
 
 pub const LIST_POLICY: u8 = 41;
