@@ -33,7 +33,7 @@ use Rattle.executive.proofs.ReadingLaws.{finished-some, finished-none, accepted
 use Rattle.executive.proofs.TableLaws.{same-table, state-sound, empty-sound}
 use Rattle.linux.specs.declared.read.Attr.{Attr}
 use Rattle.linux.specs.Attrs.{attrIn, attrRefusal, taskOf}
-use Rattle.linux.specs.Lists.{inserted, listTable, readFrom, readRecords, readOf}
+use Rattle.linux.specs.Lists.{inserted, listTable, readFrom, recordsOf, readRecords, readOf}
 use Rattle.linux.specs.Writing.{encodeAttr}
 use Rattle.linux.proofs.InsertLaws.{Has, has-new, has-old, has-back, length-inserted, inserted-last}
 use Rattle.linux.proofs.ColumnLaws.{again}
@@ -175,10 +175,6 @@ accepted-length list h = go (eqb (length list % 48) 0) refl
     go false e =
         let forty : _≡_ {A = ℕ} 40 0 = sym (ap (λ (l : Loaded). l .number) (read-odd list (eqb-false (length list % 48) 0 e))) ∙ h in
         absurd (omega arith)
-
--- the records of a list
-abbrev pub recordsOf : List ℕ → List (List ℕ)
-recordsOf list = partsOf 48 (length list / 48) list
 
 pub read-ended : (list : List ℕ) → (readOf list) .number ≡ 0 → Ended [] 0 (recordsOf list) (readOf list)
 unfolding readRecords

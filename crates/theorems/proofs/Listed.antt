@@ -32,7 +32,7 @@ use Rattle.executive.proofs.LookupLaws.{tasks-count, sems-count}
 use Rattle.executive.proofs.TableLaws.{same-table, state-tasks, as-loaded, state-sound}
 use Rattle.linux.specs.declared.read.Attr.{Attr}
 use Rattle.linux.specs.Attrs.{attrIn, ticksUp, ticksDown, periodOf, periodTicks, costTicks, badSize, otherPolicy, badTimes, attrRefusal, taskOf}
-use Rattle.linux.specs.Lists.{inserted, listTable, readFrom, readRecords, readOf}
+use Rattle.linux.specs.Lists.{inserted, listTable, readFrom, recordsOf, readRecords, readOf}
 use Rattle.linux.specs.Writing.{encodeAttr, outsideDP1, noList, listNumber, listWritten}
 use Rattle.linux.proofs.AttrLaws.{up-least, down-most, raw-back, raw-times, task-raw}
 use Rattle.linux.proofs.InsertLaws.{length-inserted}
@@ -49,7 +49,6 @@ use Rattle.theorems.specs.Lists.{
   runtimeIn,
   deadlineIn,
   periodIn,
-  recordsOf,
   RoundsUp,
   RoundsDown,
   UnequalTimes,

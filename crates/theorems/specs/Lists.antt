@@ -1,12 +1,12 @@
 -- 02, b): tables from Linux rigs, sentence by sentence. Each is shown under the same name, in lower case, in proofs/Listed.antt.
-use Prim.Native.Nat.{ℕ, suc, _+_, _-_, _*_, _/_, _%_, _≤_, _<_}
+use Prim.Native.Nat.{ℕ, suc, _+_, _-_, _*_, _%_, _≤_, _<_}
 use mathlib.Core.Path.{_≡_}
 use mathlib.Core.Logic.{_↔_, _≢_, _⊎_}
 use mathlib.Core.Bool.{false}
 use mathlib.Core.List.{List, [], _∷_}
 use lib.ListN.{length, getD}
 use Rattle.fields.specs.Fields.{readAt, putAt, Bytes}
-use Rattle.fields.specs.Parts.{partsOf, flat}
+use Rattle.fields.specs.Parts.{flat}
 use Rattle.table.specs.declared.Task.{Task}
 use Rattle.table.specs.declared.Status.the-variants.{Idle}
 use Rattle.table.specs.WellFormed.{WellFormed}
@@ -15,7 +15,7 @@ use Rattle.executive.specs.declared.state.State.{State}
 use Rattle.executive.specs.States.{emptyState, tasksOf, semsOf}
 use Rattle.executive.specs.Reading.{acceptedLoad}
 use Rattle.executive.specs.Tables.{asLoaded}
-use Rattle.linux.specs.Lists.{readOf}
+use Rattle.linux.specs.Lists.{recordsOf, readOf}
 use Rattle.linux.specs.Writing.{listNumber, listWritten}
 use Rattle.theorems.specs.Comes.{Comes}
 use Rattle.theorems.specs.When.{FirstThat}
@@ -44,10 +44,6 @@ deadlineIn r = readAt 8 r 32
 
 abbrev pub periodIn : List ℕ → ℕ
 periodIn r = readAt 8 r 40
-
--- the records of a list, in order
-abbrev pub recordsOf : List ℕ → List (List ℕ)
-recordsOf list = partsOf 48 (length list / 48) list
 
 -- "Runtime rounds up to a tick, periods down": so many ticks of 10 ns
 abbrev pub RoundsUp : ℕ → ℕ → Type 0
