@@ -24,42 +24,43 @@ attrIn r =
       period = readAt 8 r 40;
     }
 
--- a tick has 10 nanoseconds. Runtime rounds up to a tick, periods down
+-- 02, b): "Runtime rounds up to a tick, periods down"; a tick has 10 nanoseconds
 unfoldable pub ticksUp : ℕ → ℕ
 ticksUp ns = ns / 10 + cond (eqb (ns % 10) 0) 0 1
 
 unfoldable pub ticksDown : ℕ → ℕ
 ticksDown ns = ns / 10
 
--- a period of zero means the deadline
+-- 02, b): "a period of zero means the deadline"
 unfoldable pub periodOf : Attr → ℕ
 periodOf a = cond (eqb (a .period) 0) (a .deadline) (a .period)
 
+-- the period and the cost of a record, in ticks
 unfoldable pub periodTicks : Attr → ℕ
 periodTicks a = ticksDown (periodOf a)
 
 unfoldable pub costTicks : Attr → ℕ
 costTicks a = ticksUp (a .runtime)
 
--- 40: a size field not 48
+-- 02, b), 40: "a size field not 48"
 unfoldable pub badSize : Attr → Bool
 badSize a = not (eqb (a .size) 48)
 
--- 41: policy must be 6 (SCHED_DEADLINE), flags, nice and priority zero
+-- 02, b), 41: policy must be 6 (SCHED_DEADLINE), flags, nice and priority zero
 unfoldable pub otherPolicy : Attr → Bool
 otherPolicy a = not (eqb (a .policy) 6) || not (eqb (a .flags) 0) || not (eqb (a .nice) 0) || not (eqb (a .priority) 0)
 
--- 42: unequal times, in nanoseconds, or rounded values outside 01's ranges: period 1,000 to 100,000,000 ticks, cost 1 to the period
+-- 02, b), 42: unequal times, in nanoseconds, or rounded values outside 01's ranges: period 1,000 to 100,000,000 ticks, cost 1 to the period
 unfoldable pub badTimes : Attr → Bool
 badTimes a =
     not (eqb (periodOf a) (a .deadline))
     || not (within 1000 (periodTicks a) 100000000 && within 1 (costTicks a) (periodTicks a))
 
--- per record 40, 41, 42, 6: a 65th task, where so many were read before
+-- 02, b), "per record": 40, 41, 42, 6: a 65th task, where so many were read before
 unfoldable pub attrRefusal : ℕ → Attr → ℕ
 attrRefusal before a = firstOf ((40, badSize a) ∷ (41, otherPolicy a) ∷ (42, badTimes a) ∷ (6, leb 64 before) ∷ [])
 
--- the task of the record at a place: numbers are places in the list from 1; in DP1, idle, with no deadline of its own
+-- 02, b), the task of the record at a place: numbers are places in the list from 1; in DP1, idle, with no deadline of its own
 unfoldable pub taskOf : ℕ → Attr → Task
 taskOf place a =
     record {
