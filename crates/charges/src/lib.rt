@@ -1,4 +1,6 @@
 // The charge of each task: what blocking, unblocking and choosing cost it (document 01, "Charges").
+#![tactic(auto)]
+
 ghost use Rattle.std.specs.Prelude.{◌≡◌, cond, ◌*◌, ◌≤◌, max, take};
 ghost use Rattle.charges.specs.Charges.{
   counts_of,

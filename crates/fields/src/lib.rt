@@ -1,4 +1,6 @@
 // Little-endian numbers in a lent slice of bytes, and parts that hold one byte throughout.
+#![tactic(auto)]
+
 ghost use Rattle.std.specs.Prelude.{◌≡◌, ◌+◌, ◌≤◌, length, replicate};
 ghost use Rattle.fields.specs.Fields.{read_at, put_at, all_are};
 

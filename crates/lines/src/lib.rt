@@ -1,4 +1,6 @@
 // The lines that the checking program prints, put into a lent buffer.
+#![tactic(auto)]
+
 ghost use Rattle.std.specs.Prelude.{◌+◌, ◌*◌, ◌%◌, ◌≤◌, ◌<◌, [], ◌∷◌, length};
 ghost use Rattle.lines.specs.Lines.{Put, digit, decimal, numbered, line_of};
 

@@ -1,4 +1,6 @@
 // The entries of a rack's table, the limits and the numbers of document 01, and the built-in figures of the board.
+#![tactic(auto)]
+
 ghost use Rattle.std.specs.Prelude.{◌≡◌};
 ghost use Rattle.table.specs.Entries.{built_in, no_figures, blank_task, blank_sem};
 ghost use Rattle.table.specs.Entries.{span_of, with_status, with_deadline, with_holder};
@@ -8,7 +10,7 @@ pub mod numbers;
 pub mod ranges;
 
 // What a task is doing. A semaphore is named by its place in the table.
-#[derive(Drop)]
+#[derive(Clone, Copy)]
 pub enum Status {
     Idle,
     Ready,
@@ -17,14 +19,14 @@ pub enum Status {
 }
 
 // Who holds a semaphore. A task is named by its place in the table.
-#[derive(Drop)]
+#[derive(Clone, Copy)]
 pub enum Holder {
     Free,
     By(u8),
 }
 
 // Where a number stands among the entries, if it does.
-#[derive(Drop)]
+#[derive(Clone, Copy)]
 pub enum Found {
     At(usize),
     Nothing,
@@ -32,7 +34,7 @@ pub enum Found {
 
 // A task. The wide fields stand first, so that an entry has no gaps. `due` is the deadline as the record has it, in
 // ticks from a release, 0 for the period; `deadline` is that of the last release.
-#[derive(Drop)]
+#[derive(Clone, Copy)]
 pub struct Task {
     pub deadline: u64,
     pub period: u32,
@@ -43,14 +45,14 @@ pub struct Task {
     pub status: Status,
 }
 
-#[derive(Drop)]
+#[derive(Clone, Copy)]
 pub struct Sem {
     pub number: u16,
     pub holder: Holder,
 }
 
 // The nine overhead figures, in the order of the board record.
-#[derive(Drop)]
+#[derive(Clone, Copy)]
 pub struct Board {
     pub dp_block: u16,
     pub dp_unblock: u16,
