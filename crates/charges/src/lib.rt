@@ -18,7 +18,7 @@ use table::{Board, Task};
 
 // The figures, with n tasks, q in DP1, r in DP1 and DP2 together, k queues that are not empty, and m, the larger of q
 // and r - q.
-#[derive(Drop)]
+#[derive(Clone, Copy)]
 pub struct Counts {
     pub board: Board,
     pub n: u8,

@@ -23,7 +23,7 @@ use table::{Found, Holder, Sem, Status, Task, limits, numbers};
 use waits::standing;
 
 // What a call hands back: the next state and a number of document 01.
-#[derive(Drop)]
+#[derive(Clone, Copy)]
 pub struct Moved {
     pub state: State,
     pub answer: u8,
@@ -69,7 +69,7 @@ fn wake_refusal(known: bool, status: Status, wanted: u8, number: u8) -> u8
 }
 
 // Who asks for which semaphore, by position and place; or a refusal and zeros.
-#[derive(Drop)]
+#[derive(Clone, Copy)]
 struct Asks {
     task: usize,
     sem: usize,

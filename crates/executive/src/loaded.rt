@@ -5,7 +5,7 @@ ghost use Rattle.executive.specs.Reading.{refused_load};
 use crate::state::State;
 
 // The state, the number, and the place of the record that was refused.
-#[derive(Drop)]
+#[derive(Clone, Copy)]
 pub struct Loaded {
     pub state: State,
     pub number: u8,

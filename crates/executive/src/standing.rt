@@ -10,7 +10,7 @@ use table::{Found, numbers};
 use waits::standing;
 
 // What standing answers: 0 or 20, and the queue, the deadline (0 in FP) and the position.
-#[derive(Drop)]
+#[derive(Clone, Copy)]
 pub struct Stands {
     pub number: u8,
     pub queue: u8,

@@ -4,7 +4,7 @@ ghost use Rattle.executive.specs.States.{empty_state};
 
 use table::{Board, Sem, Task};
 
-#[derive(Drop)]
+#[derive(Clone, Copy)]
 pub struct State {
     pub tasks: [Task; 64],
     pub sems: [Sem; 16],

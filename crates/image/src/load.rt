@@ -13,7 +13,7 @@ use table::{Board, Sem, Task, limits, numbers, ranges};
 
 // What of the records so far decides on the next: the last entries, how many there are, whether a board record was
 // there, and an erased one.
-#[derive(Drop)]
+#[derive(Clone, Copy)]
 pub struct Front {
     pub task: Task,
     pub n: usize,

@@ -6,7 +6,7 @@ mod search;
 mod sums;
 
 // The queue, the period, the load and the span of each task, in table order.
-#[derive(Drop)]
+#[derive(Clone, Copy)]
 pub struct Columns {
     pub queues: [u8; 64],
     pub periods: [u64; 64],
@@ -15,21 +15,21 @@ pub struct Columns {
 }
 
 // What judging answers: the number, and the task that it names, or 0.
-#[derive(Drop)]
+#[derive(Clone, Copy)]
 pub struct Verdict {
     pub number: u8,
     pub task: u16,
 }
 
 // The number, and the place of the task that is named.
-#[derive(Drop)]
+#[derive(Clone, Copy)]
 pub struct Outcome {
     pub number: u8,
     pub place: Found,
 }
 
 // The shared period of the DP tasks, or the place of the task at which it grew too long.
-#[derive(Drop)]
+#[derive(Clone, Copy)]
 pub enum Shared {
     Above(usize),
     Within(u64),

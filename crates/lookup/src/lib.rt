@@ -1,4 +1,6 @@
 // Look-up by number, only among the tasks and semaphores that there are.
+#![tactic(auto)]
+
 ghost use Rattle.std.specs.Prelude.{◌≡◌, ◌≤◌, length, take};
 ghost use Rattle.table.specs.Places.{task_place, sem_place};
 

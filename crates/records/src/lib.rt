@@ -7,7 +7,7 @@ ghost use Rattle.records.specs.Records.{task_in, board_in, sem_in, encode_task, 
 use table::{Board, Holder, Sem, Status, Task, numbers, ranges};
 
 // What a record says: erased, one entry of the table, or the number with which it is refused.
-#[derive(Drop)]
+#[derive(Clone, Copy)]
 pub enum Decoded {
     Erased,
     TaskRecord(Task),

@@ -10,7 +10,7 @@ use crate::standing;
 use table::{Found, Holder, Sem, Status, Task};
 
 // Which task a chain of waits is followed to: a ready one, that at a position, or one that waits for a semaphore.
-#[derive(Drop)]
+#[derive(Clone, Copy)]
 pub enum Goal {
     Ready,
     Is(u8),
@@ -19,7 +19,7 @@ pub enum Goal {
 
 // The best own standing so far among the tasks whose chain of waits meets the goal, and the task that is met there.
 // No field is narrow, so that the loop carries no gaps.
-#[derive(Drop)]
+#[derive(Clone, Copy)]
 pub struct Best {
     pub queue: u64,
     pub deadline: u64,

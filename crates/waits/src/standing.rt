@@ -12,7 +12,7 @@ use crate::scan::Goal;
 use table::{Found, Holder, Sem, Status, Task};
 
 // A standing: queue, deadline (0 in FP) and position.
-#[derive(Drop)]
+#[derive(Clone, Copy)]
 pub struct Rank {
     pub deadline: u64,
     pub queue: u8,
@@ -133,7 +133,7 @@ fn own_at(tasks: [Task; 64], at: usize) -> Rank
 }
 
 // A task's own standing, and whether somebody waits for a semaphore that it holds.
-#[derive(Drop)]
+#[derive(Clone, Copy)]
 struct Alone {
     rank: Rank,
     waited: bool,
