@@ -1,4 +1,6 @@
 // One record of an image, 32 bytes: its kind, its fields and their ranges, and back.
+#![tactic(auto)]
+
 ghost use Rattle.std.specs.Prelude.{◌≡◌, cond, ◌&&◌, eqb, length};
 ghost use Rattle.fields.specs.Fields.{all_are};
 ghost use Rattle.records.specs.Records.{decoded, task_decoded, board_decoded, sem_decoded};
