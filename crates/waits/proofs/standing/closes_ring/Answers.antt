@@ -42,10 +42,9 @@ held c =
     let a = b.args in
     let l = c.loop-at in
     let small = c.loop-at-test.true in
-    let holder = c.holder-1 in
     chain_on a.tasks a.n a.sems a.m b.requires.0 (Is a.i) a.k l.at c.led_by-at.result l.invariant small
     (c.led_by-at.ensures
-    ∙ reads_held a.tasks a.n a.sems a.m b.requires.0 (Is a.i) l.at (l.invariant.within small) holder.given.0.0 holder.given.1)
+    ∙ reads_held a.tasks a.n a.sems a.m b.requires.0 (Is a.i) l.at (l.invariant.within small) c.in-By.place c.in-By.is)
 
 pub overflow_cast-goal : goal.overflow_cast-goal
 overflow_cast-goal c = let u = c.requires.0 in omega arith

@@ -43,7 +43,7 @@ returns-then-not-first c =
     ap (λ (x : Alone). x.rank) first.ensures
     ∙ sym
     (not_waited_on (take a.n a.tasks) (take a.m a.sems) u.chained a.i (omega arith)
-    (sym (ap (λ (x : Alone). x.waited) first.ensures) ∙ not-true _ (ap not c.if-not-first.true)))
+    (sym (ap (λ (x : Alone). x.waited) first.ensures) ∙ not-true _ c.if-not-first.true))
 
 pub overflow_cast-i : goal.overflow_cast-i
 overflow_cast-i c = let u = c.requires.0 in let h = c.requires.1 in omega arith

@@ -1,8 +1,7 @@
 -- `standing::stands_alone` meets its contract: none of the tasks before j waits on the task.
 use Prim.Native.Nat.{ℕ, ◌-◌, ◌<◌}
-use mathlib.Core.Logic.{inl, inr}
 use mathlib.Core.Path.{◌≡◌, refl, sym, ap, ◌∙◌}
-use mathlib.Core.Bool.{false}
+use mathlib.Core.Bool.{Bool, false}
 use mathlib.Core.List.{List, [], ◌∷◌}
 use native.Mathlib.Omega.{arith}
 use lib.Dec.{eqb}
@@ -29,15 +28,13 @@ use Rattle.waits.proofs.ScanLaws.{tasks_used, sems_used}
 use Rattle.waits.proofs.standing.stands_alone.Invariants.{on}
 use Rattle.waits.proofs.standing.stands_alone.Goals as goal
 
--- a task whose status is one of the first three waits for nothing
-waits_not : (now : Status) → OneOf (0 ∷ 1 ∷ 2 ∷ []) (tag_of the_type now) → waits_for now ≡ Nothing
+-- a task that waits for no semaphore waits for nothing
+waits_not : (now : Status) → ((k : ℕ) → now ≡ Waits k → ⊥) → waits_for now ≡ Nothing
 unfolding waits_for
 waits_not Idle h = refl
 waits_not Ready h = refl
 waits_not Event h = refl
-waits_not (Waits k) (inl e) = absurd (omega arith)
-waits_not (Waits k) (inr (inl e)) = absurd (omega arith)
-waits_not (Waits k) (inr (inr e)) = absurd (omega arith)
+waits_not (Waits k) h = absurd (h k refl)
 
 off : (sems : List Sem) (i : ℕ) (t : Task) → waits_for t.status ≡ Nothing → on sems i t ≡ false
 unfolding holder_of found_and
@@ -74,16 +71,16 @@ fits : (c : goal.In-Waits) → c.in-Waits.k < 16
 fits c = let h = known c in let z = c.requires.0 in omega arith
 
 -- so whether the task waits on the one at i is what was asked
-asked : (c : goal.After-holds_it)
+asked : (c : goal.In-Waits) (r : Bool) → r ≡ holds_it c.args.i (get_or c.args.sems c.in-Waits.k blank_sem)
     → on (take c.args.m c.args.sems)
     c.args.i
     (get_or c.args.tasks c.loop-j.j blank_task)
-    ≡ c.holds_it.result
-asked c =
+    ≡ r
+asked c r e =
     let b = c in
     let told = c in
     let t = get_or b.args.tasks c.loop-j.j blank_task in
-    onto b.args.sems b.args.m b.args.i told.in-Waits.k t (for_it told) (known told) ∙ sym c.holds_it.ensures
+    onto b.args.sems b.args.m b.args.i told.in-Waits.k t (for_it told) (known told) ∙ sym e
 
 pub offset_bounds-tasks-i : goal.offset_bounds-tasks-i
 offset_bounds-tasks-i c = let u = c.requires.0 in let h = c.requires.1 in omega arith
@@ -101,7 +98,7 @@ pub loop-j-preserved-in_default : goal.loop-j-preserved-in_default
 loop-j-preserved-in_default c = let b = c in
     let l = c.loop-j in
     let t = get_or b.args.tasks l.j blank_task in
-    (omega arith, below_more _ _ l.invariant.1 (off (take b.args.m b.args.sems) b.args.i t (waits_not t.status c.in_default.in_default-own.keys2)))
+    (omega arith, below_more _ _ l.invariant.1 (off (take b.args.m b.args.sems) b.args.i t (waits_not t.status c.in_default.not-Waits)))
 
 pub overflow_cast-k : goal.overflow_cast-k
 overflow_cast-k c = omega (arith, fits c)
@@ -122,13 +119,13 @@ returns-then-holds_it c = let b = c in
     let z = b.requires.0 in
     let waited = sym
     (any_some (on sems a.i) (take a.n a.tasks) j blank_task (rw (length-take-le a.n a.tasks (omega arith)) below)
-    (ap (on sems a.i) (get_or-take a.n a.tasks j blank_task below) ∙ asked c.before ∙ c.if-holds_it.true)) in
+    (ap (on sems a.i) (get_or-take a.n a.tasks j blank_task below) ∙ asked c.before.before.before _ c.holds_it.ensures ∙ c.if-holds_it.true)) in
     let rank = c.own-rank.ensures ∙ own_is a.tasks a.n a.i b.requires.1 in
     λ k. record { rank = rank k; waited = waited k }
 
 pub loop-j-preserved : goal.loop-j-preserved
 loop-j-preserved c = let l = c.loop-j in
-    (omega arith, below_more _ _ l.invariant.1 (asked c.before ∙ c.if-holds_it.false))
+    (omega arith, below_more _ _ l.invariant.1 (asked c.before.before.before _ c.holds_it.ensures ∙ c.if-holds_it.false))
 
 pub returns : goal.returns
 unfolding waited_on alone_of
