@@ -1,4 +1,6 @@
 // The executive: the state of a rack and what may be done to it.
+#![tactic(auto)]
+
 pub mod calls;
 pub mod loaded;
 pub mod standing;
