@@ -1,1 +1,2 @@
 // No code: what every call keeps, shown in proofs/.
+#![tactic(auto)]
