@@ -1,4 +1,6 @@
 // Judging: the tests of document 01 on a table, with charges included.
+#![tactic(auto)]
+
 use table::Found;
 
 pub mod judge;

@@ -1,5 +1,7 @@
 // Lists of sched_attr records from Linux rigs, as sched_setattr(2) describes them: a table read from one, and written
 // as one.
+#![tactic(auto)]
+
 pub mod read;
 pub mod write;
 
