@@ -8,7 +8,9 @@ use Rattle.linux.proofs.write.write.Goals as goal
 
 pub returns-then-n-eq0 : goal.returns-then-n-eq0
 returns-then-n-eq0 c =
-    let a = c.args in list_none a.state a.list.now c.if-n-eq0.true
+    let a = c.args in
+    let none = list_none a.state a.list.now c.if-n-eq0.true in
+    record { value = none.0; list_after = none.1 }
 
 pub overflow_mul-n : goal.overflow_mul-n
 overflow_mul-n c = omega (arith, c.requires.tasks_fit)
@@ -18,8 +20,10 @@ returns-then-list-n c =
     let p = c in
     let a = p.args in
     let n = tasks_count a.state p.requires in
+    let unfit =
     list_unfit a.state a.list.now c.if-n-eq0.false
-    (long_unfit a.state (length a.list.now) (λ e. c.if-list-n.true (e ∙ omega arith)))
+    (long_unfit a.state (length a.list.now) (λ e. c.if-list-n.true (e ∙ omega arith))) in
+    record { value = unfit.0; list_after = unfit.1 }
 
 pub some_outside-requires : goal.some_outside-requires
 some_outside-requires c = c.requires
@@ -28,8 +32,10 @@ pub returns-then-some_outside : goal.returns-then-some_outside
 returns-then-some_outside c =
     let p = c in
     let a = p.args in
+    let unfit =
     list_unfit a.state a.list.now c.if-n-eq0.false
-    (queue_unfit a.state (length a.list.now) (sym c.some_outside.ensures ∙ c.if-some_outside.true))
+    (queue_unfit a.state (length a.list.now) (sym c.some_outside.ensures ∙ c.if-some_outside.true)) in
+    record { value = unfit.0; list_after = unfit.1 }
 
 pub put_records-requires : goal.put_records-requires
 put_records-requires c =
@@ -44,4 +50,4 @@ returns c =
     let n = tasks_count a.state p.requires in
     let done = list_done a.state a.list.now asked.if-n-eq0.false
     (fits_list a.state (length a.list.now) (sym asked.some_outside.ensures ∙ c.if-some_outside.false) (asked.if-list-n.false ∙ omega arith)) in
-    (sym done.0, c.put_records.ensures ∙ sym done.1)
+    record { value = sym done.0; list_after = c.put_records.ensures ∙ sym done.1 }
