@@ -1,5 +1,4 @@
 -- `fields::all_are` meets its contract: what is left of the part from i on decides.
-use Prim.Native.Nat.{◌-◌}
 use mathlib.Core.Path.{refl, sym, ◌∙◌}
 use native.Mathlib.Omega.{arith}
 use Rattle.fields.proofs.ByteLaws.{all_more, all_stop, all_end}

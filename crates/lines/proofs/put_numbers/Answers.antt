@@ -1,5 +1,5 @@
 -- `lines::put_numbers` meets its contract: after as many turns as many numbers are put, each behind a blank.
-use Prim.Native.Nat.{◌≤◌, ◌-◌}
+use Prim.Native.Nat.{◌≤◌}
 use native.Mathlib.Omega.{arith}
 use lib.ListN.{length, get_or, length-set}
 use lib.Seq.{take_all}

@@ -1,5 +1,5 @@
 -- `lines::put_word` meets its contract: after as many turns as many bytes of the word are put.
-use Prim.Native.Nat.{◌≤◌, ◌-◌}
+use Prim.Native.Nat.{◌≤◌}
 use native.Mathlib.Nat.{add-zero}
 use native.Mathlib.Omega.{arith}
 use lib.ListN.{length}

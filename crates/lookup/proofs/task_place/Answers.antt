@@ -1,5 +1,4 @@
 -- `lookup::task_place` meets its contract: what is left from i on decides.
-use Prim.Native.Nat.{◌-◌}
 use mathlib.Core.Path.{refl}
 use native.Mathlib.Omega.{arith}
 use lib.Dec.{eqb}

@@ -1,6 +1,6 @@
 -- `scan::scan` meets its contract: the table's entries before k say where their semaphores lead; after i turns the best so far is the fold over the
 -- first i tasks, and that is the best that meets the goal.
-use Prim.Native.Nat.{ℕ, ◌-◌, ◌≤◌, ◌<◌}
+use Prim.Native.Nat.{ℕ, ◌≤◌, ◌<◌}
 use mathlib.Core.List.{List}
 use mathlib.Core.Path.{◌≡◌, refl, sym, ap, subst, ◌∙◌}
 use native.Mathlib.Numerals.{add-one}
@@ -73,14 +73,14 @@ loop-k-preserved c =
     let taken = c.loop-k-test.true in
     let f : ℕ → ℕ = λ j. led_by a.tasks a.goal (held_by (sem_at (take a.m a.sems) j).holder) in
     elim c.match-holder.branch [
-      in-Free w ↦
-        (let r = table_more l.link c.match-holder.link l.k 32 f l.invariant.1 (omega arith) w.link-is (led_free a.tasks a.sems a.m a.goal l.k taken w.in-Free.is)
-            l.invariant.2 in
-        (omega arith, r.0, r.1))
+      | in-Free w ↦
+          (let r = table_more l.link c.match-holder.link l.k 32 f l.invariant.1 (omega arith) w.link-is (led_free a.tasks a.sems a.m a.goal l.k taken w.in-Free.is)
+          l.invariant.2 in
+          (omega arith, r.0, r.1))
       | in-By w ↦
-        (let r = table_more l.link c.match-holder.link l.k w.led_by.result f l.invariant.1 (omega arith) w.link-is
-            (w.led_by.ensures ∙ led_held a.tasks a.sems a.m a.goal l.k taken w.in-By.place w.in-By.is) l.invariant.2 in
-        (omega arith, r.0, r.1))
+          (let r = table_more l.link c.match-holder.link l.k w.led_by.result f l.invariant.1 (omega arith) w.link-is
+          (w.led_by.ensures ∙ led_held a.tasks a.sems a.m a.goal l.k taken w.in-By.place w.in-By.is) l.invariant.2 in
+          (omega arith, r.0, r.1))
     ]
 
 pub loop-i-init : goal.loop-i-init
@@ -114,10 +114,10 @@ loop-i-preserved c =
     let asked = c.ahead.ensures in
     let turned : c.if-ahead.best ≡ folded l.best t l.i met =
     elim c.if-ahead.branch [
-      then-ahead+then-met-ge-MET w ↦
-        w.best-is
-        ∙ (w.as_best-best.ensures ∙ ap (as_best t l.i) w.led_to-met.ensures)
-        ∙ sym (fold_ahead l.best t l.i met (sym asked ∙ w.if-ahead.true) (subst (λ (x : ℕ). 64 ≤ x) w.led_to-met.ensures w.if-met-ge-MET.true))
+      | then-ahead+then-met-ge-MET w ↦
+          w.best-is
+          ∙ (w.as_best-best.ensures ∙ ap (as_best t l.i) w.led_to-met.ensures)
+          ∙ sym (fold_ahead l.best t l.i met (sym asked ∙ w.if-ahead.true) (subst (λ (x : ℕ). 64 ≤ x) w.led_to-met.ensures w.if-met-ge-MET.true))
       | then-ahead+else-met-ge-MET w ↦ w.best-is ∙ sym (fold_unmet l.best t l.i met (subst (λ (x : ℕ). x < 64) w.led_to-met.ensures w.if-met-ge-MET.false))
       | else-ahead w ↦ w.best-is ∙ sym (fold_behind l.best t l.i met (sym asked ∙ w.if-ahead.false))
     ]

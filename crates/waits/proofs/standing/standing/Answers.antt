@@ -1,5 +1,4 @@
 -- `standing::standing` meets its contract: a task on which nobody waits has its own standing, else the scan finds the best that reaches it.
-use mathlib.Core.Bool.{not}
 use Prim.Native.Nat.{◌<◌}
 use mathlib.Core.Path.{◌≡◌, sym, ap, ◌∙◌}
 use native.Mathlib.Omega.{arith}

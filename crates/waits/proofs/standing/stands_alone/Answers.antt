@@ -1,14 +1,12 @@
 -- `standing::stands_alone` meets its contract: none of the tasks before j waits on the task.
-use Prim.Native.Nat.{ℕ, ◌-◌, ◌<◌}
+use Prim.Native.Nat.{ℕ, ◌<◌}
 use mathlib.Core.Path.{◌≡◌, refl, sym, ap, ◌∙◌}
 use mathlib.Core.Bool.{Bool, false}
-use mathlib.Core.List.{List, [], ◌∷◌}
+use mathlib.Core.List.{List}
 use native.Mathlib.Omega.{arith}
 use lib.Dec.{eqb}
 use lib.ListN.{length, get_or, take}
 use lib.Seq.{length-take-le, get_or-take}
-use types.Run.{OneOf}
-use denote.Enum.Declared.{tag_of}
 use borrow.Author.Count.{below_more}
 use Rattle.table.specs.declared.Task.{Task}
 use Rattle.table.specs.declared.Sem.{Sem}
@@ -17,7 +15,6 @@ use Rattle.table.specs.declared.Status.TheVariants.{Idle, Ready, Event, Waits}
 use Rattle.table.specs.declared.Found.{Found}
 use Rattle.table.specs.declared.Found.TheVariants.{At, Nothing}
 use Rattle.table.specs.Entries.{blank_task, blank_sem}
-use Rattle.table.specs.contracts.Status.{the_type}
 use Rattle.table.proofs.SumLaws.{any_some, none_any}
 use Rattle.waits.specs.Waits.{waits_for, held_by, holder_of}
 use Rattle.waits.specs.Standing.{found_and, holds_it}
