@@ -1,6 +1,6 @@
 -- `judging::judge::columns_of` meets its contract: each column has the entries of the tasks passed; the loads by the promise of `charges` alone.
 use borrow.Author.Rules.{rules}
-use Prim.Native.Nat.{ℕ, ◌+◌, ◌-◌, ◌<◌}
+use Prim.Native.Nat.{ℕ, ◌+◌, ◌<◌}
 use mathlib.Core.Path.{◌≡◌, refl, subst, ◌∙◌}
 use mathlib.Core.List.{List, map}
 use native.Mathlib.Omega.{arith}

@@ -1,5 +1,5 @@
 -- `judging::search::demand` meets its contract: the loop has the sum over the tasks passed; each adds at most 10^17.
-use Prim.Native.Nat.{ℕ, ◌*◌, ◌-◌, ◌≤◌}
+use Prim.Native.Nat.{ℕ, ◌*◌, ◌≤◌}
 use mathlib.Core.Path.{◌≡◌, ap, ◌∙◌}
 use native.Mathlib.Nat.{mul-le-mul}
 use native.Mathlib.Omega.{arith}
@@ -34,7 +34,7 @@ pub loop-i-preserved : goal.loop-i-preserved
 loop-i-preserved c =
     let a = c.args in
     let i = c.loop-i.i in
-    let f : ℕ → ℕ = λ j. at a.loads.now j * counted (at a.queues.now j) a.t (at a.periods.now j) a.own_val in
+    let f : ℕ → ℕ = λ j. at a.loads.now j * counted (at a.queues.now j) a.t (at a.periods.now j) a.own in
     let e : at a.loads.now i * c.count.result ≡ f i = ap (λ (n : ℕ). at a.loads.now i * n) c.count.ensures.0 in
     omega (arith, term c, sum_to_more i f)
 
@@ -45,4 +45,4 @@ returns c =
     let i = c.loop-i.i in
     let e : i ≡ length a.queues.now = omega arith in
     c.loop-i.invariant.1
-    ∙ ap (λ (n : ℕ). sum_to n (λ j. at a.loads.now j * counted (at a.queues.now j) a.t (at a.periods.now j) a.own_val)) e
+    ∙ ap (λ (n : ℕ). sum_to n (λ j. at a.loads.now j * counted (at a.queues.now j) a.t (at a.periods.now j) a.own)) e

@@ -1,13 +1,13 @@
 -- `judging::sums::over_full` meets its contract: the loop has the sum times h; the sum of fractions is above 1 exactly if that is above h.
-use Prim.Native.Nat.{◌+◌, ◌*◌, ◌-◌, ◌/◌, ◌≤◌}
+use Prim.Native.Nat.{◌+◌, ◌*◌, ◌/◌, ◌≤◌}
 use mathlib.Core.Path.{◌≡◌, sym, ap, ◌∙◌}
-use mathlib.Core.Logic.{⊎_elim}
 use native.Mathlib.Nat.{mul-le-mul}
 use native.Mathlib.Omega.{arith}
 use borrow.Author.Tests.{lt-ltb, le-ltb}
 use lib.ListN.{length}
 use Rattle.judging.specs.Columns.{at, columns}
 use Rattle.judging.proofs.FractionLaws.{scaled, scaled_start, scaled_in, scaled_out, scaled_mono, over_full_lem, part_small}
+use Rattle.judging.proofs.sums.over_full.Goals.{then-queues-i+else-h-sum, else-queues-i}
 use Rattle.judging.proofs.sums.over_full.Goals as goal
 
 -- a load times its part of h
@@ -59,7 +59,13 @@ loop-i-preserved c =
     let i = c.loop-i.i in
     let inn = scaled_in g a.last a.h i in
     let out = scaled_out g a.last a.h i in
-    ⊎_elim (λ w. omega (arith, inn w.0.taken)) (λ w. omega (arith, out w.0.left)) c.if-queues-i.branch
+    elim c.if-queues-i.branch [
+      | then-queues-i+else-h-sum w ↦ omega (arith, inn w.if-queues-i.true)
+      | else-queues-i w ↦ omega (arith, out w.if-queues-i.false)
+    ]
+
+pub nonzero_div-sum : goal.nonzero_div-sum
+nonzero_div-sum c = omega (arith, c.requires.0.periods.least c.loop-i.i c.loop-i-test.true)
 
 pub overflow_mul-sum : goal.overflow_mul-sum
 overflow_mul-sum c = omega (arith, term c)
