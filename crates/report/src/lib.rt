@@ -1,4 +1,6 @@
 // What the checking program prints for an image, put into a lent buffer.
+#![tactic(auto)]
+
 ghost use Rattle.std.specs.Prelude.{◌+◌, ◌≤◌, [], ◌∷◌, length};
 ghost use Rattle.lines.specs.Lines.{Put, line_of};
 ghost use Rattle.executive.specs.States.{tasks_of};

@@ -33,7 +33,7 @@ use Rattle.executive.specs.Calls.{with_tasks, with_task, with_last, now_does, mo
 use Rattle.waits.proofs.RankLaws.{best_is}
 use Rattle.executive.proofs.CallLaws.{on_none, on_refused, on_done}
 use Rattle.executive.proofs.LookupLaws.{tasks_count, task_found}
-use Rattle.theorems.specs.Histories.{Call, release, signal, withdraw, acquire, called, after, answers_to}
+use Rattle.theorems.specs.Histories.{Call, release, signal, withdraw, acquire, give, complete, block, called, after, answers_to}
 use Rattle.theorems.specs.Undo.{Pulse, released, signalled, Pulses, none, more}
 
 -- a call that names a task, puts another entry at its place and sets the time of the last release
@@ -305,6 +305,11 @@ module _ (i : ℕ) (t : Task) (k : ℕ) (ready : t.status ≡ Ready) where
       (signal_pulse s number)
       (signal_pulse (apart s) number ∙ r.0)
       r.1
+  step s h (withdraw _) pulse = elim pulse [ ]
+  step s h (acquire _) pulse = elim pulse [ ]
+  step s h (give _) pulse = elim pulse [ ]
+  step s h complete pulse = elim pulse [ ]
+  step s h block pulse = elim pulse [ ]
 
   -- any list of pulses
   steps : (s : State) → Same s → (calls : List Call) → Pulses calls
