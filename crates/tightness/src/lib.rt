@@ -1,1 +1,2 @@
 // No code: how tight the contracts of all crates are.
+#![tactic(auto)]
