@@ -1,5 +1,4 @@
 -- `report::put_tasks` meets its contract: after as many turns the lines of as many tasks are put.
-use Prim.Native.Nat.{◌-◌}
 use native.Mathlib.Omega.{arith}
 use mathlib.Core.Path.{◌≡◌}
 use lib.ListN.{get_or, take}

@@ -3,7 +3,6 @@ use mathlib.Core.List.{[], ◌∷◌}
 use native.Mathlib.Omega.{arith}
 use Rattle.lines.specs.Lines.{Put, line_of}
 use Rattle.executive.specs.States.{tasks_of}
-use Rattle.executive.specs.Sound.{Sound}
 use Rattle.judging.specs.Verdicts.{verdict_of}
 use Rattle.lines.proofs.PutLaws.{put_more}
 use Rattle.report.specs.Report.{image_word, verdict_word, task_lines, verdict_line}

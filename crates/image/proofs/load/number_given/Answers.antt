@@ -1,5 +1,5 @@
 -- `image::load::number_given` meets its contract: what is left of the numbers from i on decides.
-use Prim.Native.Nat.{ℕ, ◌+◌, ◌-◌}
+use Prim.Native.Nat.{ℕ, ◌+◌}
 use mathlib.Core.Path.{refl, sym, ap, ◌∙◌}
 use mathlib.Core.Bool.{Bool, ◌||◌}
 use native.Mathlib.Omega.{arith}

@@ -68,7 +68,7 @@ returns c =
     record {
       value = sym good.0;
       buf_after =
-        all_parts s start.requires buffer c.put_board.new.part c.put_entries.new.part c.board_length-start.result
+          all_parts s start.requires buffer c.put_board.new.part c.put_entries.new.part c.board_length-start.result
           c.board_length-start.ensures room c.put_board.ensures c.put_entries.ensures c.fill.new.part c.fill.ensures
           ∙ sym good.1;
     }

@@ -1,6 +1,6 @@
 -- `rack::play::play_all` meets its contract: what is put so far and what is still to be played make the whole.
 use mathlib.Core.List.{List}
-use Prim.Native.Nat.{ℕ, ◌*◌, ◌-◌}
+use Prim.Native.Nat.{ℕ, ◌*◌}
 use mathlib.Core.Path.{◌≡◌, sym, ap, subst, ◌∙◌}
 use native.Mathlib.Omega.{arith}
 use Rattle.lines.proofs.PutLaws.{put_length}
@@ -36,7 +36,7 @@ standing-stands-requires c =
     let one = c.play_one-moved in
     let here : c.match-answer.state ≡ (called_by c.loop-i.state c.args.script.now (c.loop-i.i * 16)).state =
     elim c.match-answer.branch [
-      in-0 w ↦ w.state-is ∙ ap (λ (m : Moved). m.state) one.ensures
+      | in-0 w ↦ w.state-is ∙ ap (λ (m : Moved). m.state) one.ensures
       | in_default w ↦ w.state-is ∙ kept_by c.loop-i.state c.args.script.now (c.loop-i.i * 16) one.result one.ensures w.in_default.in_default-own.rest.1
     ] in
     sound_after c.loop-i.state c.match-answer.state c.args.script.now (c.loop-i.i * 16) c.loop-i.invariant.sound here
@@ -49,7 +49,7 @@ running-requires c =
     let one = c.play_one-moved in
     let here : c.match-answer.state ≡ (called_by c.loop-i.state c.args.script.now (c.loop-i.i * 16)).state =
     elim c.match-answer.branch [
-      in-0 w ↦ w.state-is ∙ ap (λ (m : Moved). m.state) one.ensures
+      | in-0 w ↦ w.state-is ∙ ap (λ (m : Moved). m.state) one.ensures
       | in_default w ↦ w.state-is ∙ kept_by c.loop-i.state c.args.script.now (c.loop-i.i * 16) one.result one.ensures w.in_default.in_default-own.rest.1
     ] in
     sound_after c.loop-i.state c.match-answer.state c.args.script.now (c.loop-i.i * 16) c.loop-i.invariant.sound here
@@ -73,7 +73,7 @@ loop-i-preserved c =
     let at = loop.i * 16 in
     let here : c.match-answer.state ≡ (called_by c.loop-i.state c.args.script.now (c.loop-i.i * 16)).state =
     elim c.match-answer.branch [
-      in-0 w ↦ w.state-is ∙ ap (λ (m : Moved). m.state) one.ensures
+      | in-0 w ↦ w.state-is ∙ ap (λ (m : Moved). m.state) one.ensures
       | in_default w ↦ w.state-is ∙ kept_by c.loop-i.state c.args.script.now (c.loop-i.i * 16) one.result one.ensures w.in_default.in_default-own.rest.1
     ] in
     playing_on a.from a.script.now a.count a.out.now loop.out put.new.out loop.state state loop.i put.result

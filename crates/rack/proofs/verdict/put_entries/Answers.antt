@@ -1,5 +1,4 @@
 -- `rack::verdict::put_entries` meets its contract: after as many turns the entries of as many tasks are put.
-use Prim.Native.Nat.{◌-◌}
 use mathlib.Core.Path.{◌≡◌}
 use native.Mathlib.Omega.{arith}
 use lib.ListN.{get_or, take}

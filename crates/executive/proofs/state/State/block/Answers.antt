@@ -10,7 +10,7 @@ use Rattle.table.proofs.RefusalLaws.{first_of_none}
 use Rattle.waits.specs.Standing.{running_of}
 use Rattle.executive.specs.States.{tasks_of, sems_of}
 use Rattle.executive.specs.Calls.{block_of, now_does, moved, with_task, with_tasks}
-use Rattle.executive.proofs.SoundLaws.{used, task_at_lem, Runs, runs_found, nobody_found}
+use Rattle.executive.proofs.SoundLaws.{used, task_at_lem, runs_found, nobody_found}
 use Rattle.executive.proofs.CallLaws.{call_none, call_done}
 use Rattle.executive.proofs.state.State.block.Goals as goal
 

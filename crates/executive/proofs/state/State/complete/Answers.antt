@@ -11,7 +11,7 @@ use Rattle.table.proofs.RefusalLaws.{first_of_none, first_of_here, first_of_past
 use Rattle.waits.specs.Standing.{running_of, still_holds}
 use Rattle.executive.specs.States.{tasks_of, sems_of}
 use Rattle.executive.specs.Calls.{complete_of, complete_at, now_does, moved, with_task, with_tasks}
-use Rattle.executive.proofs.SoundLaws.{used, task_at_lem, Runs, runs_found, nobody_found}
+use Rattle.executive.proofs.SoundLaws.{used, task_at_lem, runs_found, nobody_found}
 use Rattle.executive.proofs.CallLaws.{call_none, call_refused, call_done}
 use Rattle.executive.proofs.state.State.complete.Goals as goal
 

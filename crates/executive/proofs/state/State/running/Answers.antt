@@ -4,7 +4,7 @@ use native.Mathlib.Omega.{arith}
 use Rattle.table.specs.declared.Task.{Task}
 use Rattle.waits.specs.Standing.{number_at}
 use Rattle.executive.specs.States.{tasks_of, sems_of}
-use Rattle.executive.proofs.SoundLaws.{used, task_at_lem, Runs, runs_found}
+use Rattle.executive.proofs.SoundLaws.{used, task_at_lem, runs_found}
 use Rattle.executive.proofs.state.State.running.Goals as goal
 
 pub running-runs-requires : goal.running-runs-requires

@@ -1,5 +1,5 @@
 -- `State::wake` meets its contract: the search by number, then the refusals, then the entry anew.
-use Prim.Native.Nat.{ℕ, ◌-◌}
+use Prim.Native.Nat.{ℕ}
 use mathlib.Core.Bool.{Bool, not}
 use mathlib.Core.List.{List, [], ◌∷◌}
 use mathlib.Core.Path.{refl, ap, ◌∙◌}
