@@ -15,7 +15,7 @@ use Rattle.table.specs.Refusals.{first_of}
 use Rattle.judging.specs.declared.Outcome.{Outcome}
 use Rattle.judging.specs.declared.Columns.{Columns}
 use Rattle.judging.specs.Columns.{at, columns, with_spans}
-use Rattle.judging.specs.Periods.{gcd_in, gcd_of, lcm_of, shared_period, too_long_lem, over_full}
+use Rattle.judging.specs.Periods.{gcd_in, gcd_of, lcm_of, shared_period, too_long, over_full}
 use Rattle.judging.specs.Demands.{demand_dp2, demand_fp, time_up_to, decided}
 use Rattle.judging.specs.Verdicts.{
   first_below,
@@ -67,13 +67,13 @@ forced_columns_lem {A} c k =
     ∙ forced_list_lem c.spans (λ s. k (with_spans c s))
 
 -- from t on, with so many steps left
-unfoldable pub fixed_from_lem : ℕ → (ℕ → ℕ) → ℕ → ℕ → Bool
-fixed_from_lem zero demand limit t = false
-fixed_from_lem (suc steps) demand limit t =
-    cond (ltb limit t) false (forced (demand t) (λ d. cond (leb d t) true (fixed_from_lem steps demand limit d)))
+unfoldable pub fixed_from : ℕ → (ℕ → ℕ) → ℕ → ℕ → Bool
+fixed_from zero demand limit t = false
+fixed_from (suc steps) demand limit t =
+    cond (ltb limit t) false (forced (demand t) (λ d. cond (leb d t) true (fixed_from steps demand limit d)))
 
 unfoldable pub fixed_up_to : (ℕ → ℕ) → ℕ → Bool
-fixed_up_to demand limit = fixed_from_lem (suc limit) demand limit 1
+fixed_up_to demand limit = fixed_from (suc limit) demand limit 1
 
 module _ (demand : ℕ → ℕ) (limit : ℕ) (rises : (s t : ℕ) → s ≤ t → demand s ≤ demand t) where
   -- no time before t is enough
@@ -88,16 +88,16 @@ module _ (demand : ℕ → ℕ) (limit : ℕ) (rises : (s t : ℕ) → s ≤ t �
       go (inl m) = omega (arith, rises t s m)
       go (inr m) = b s h m
 
-  fixed_from : (steps t : ℕ) → 1 ≤ t → limit < t + steps → Before t → fixed_from_lem steps demand limit t ≡ decided (time_up_to demand limit)
-  unfolding fixed_from_lem Before
-  fixed_from zero t h k b = sym (decided_none demand limit (λ s l m. b s l (omega arith)))
-  fixed_from (suc steps) t h k b =
-      ap (cond (ltb limit t) false) (forced_is (demand t) (λ d. cond (leb d t) true (fixed_from_lem steps demand limit d)))
-      ∙ go (ltb limit t) (leb (demand t) t) refl refl (fixed_from steps (demand t))
+  fixed_from_lem : (steps t : ℕ) → 1 ≤ t → limit < t + steps → Before t → fixed_from steps demand limit t ≡ decided (time_up_to demand limit)
+  unfolding fixed_from Before
+  fixed_from_lem zero t h k b = sym (decided_none demand limit (λ s l m. b s l (omega arith)))
+  fixed_from_lem (suc steps) t h k b =
+      ap (cond (ltb limit t) false) (forced_is (demand t) (λ d. cond (leb d t) true (fixed_from steps demand limit d)))
+      ∙ go (ltb limit t) (leb (demand t) t) refl refl (fixed_from_lem steps (demand t))
     where
       go : (x y : Bool) → ltb limit t ≡ x → leb (demand t) t ≡ y
-          → (1 ≤ demand t → limit < demand t + steps → Before (demand t) → fixed_from_lem steps demand limit (demand t) ≡ decided (time_up_to demand limit))
-          → cond x false (cond y true (fixed_from_lem steps demand limit (demand t))) ≡ decided (time_up_to demand limit)
+          → (1 ≤ demand t → limit < demand t + steps → Before (demand t) → fixed_from steps demand limit (demand t) ≡ decided (time_up_to demand limit))
+          → cond x false (cond y true (fixed_from steps demand limit (demand t))) ≡ decided (time_up_to demand limit)
       go true y e f rest =
           let above : limit < t = ltb-true limit t e in
           sym (decided_none demand limit (λ s l m. b s l (omega arith)))
@@ -108,7 +108,7 @@ module _ (demand : ℕ → ℕ) (limit : ℕ) (rises : (s t : ℕ) → s ≤ t �
 
   pub fixed_up_to_lem : fixed_up_to demand limit ≡ decided (time_up_to demand limit)
   unfolding fixed_up_to Before
-  fixed_up_to_lem = fixed_from (suc limit) 1 (omega arith) (omega arith) (λ s l m. absurd (omega arith))
+  fixed_up_to_lem = fixed_from_lem (suc limit) 1 (omega arith) (omega arith) (λ s l m. absurd (omega arith))
 
 -- the tests of 13 and 14 decided so
 unfoldable pub fixed_late : ℕ → Columns → ℕ → Bool
@@ -164,21 +164,21 @@ long_from c (suc k) i h =
     (λ g. cond (ltb 1000000000000 g) (At i) (long_from c k (suc i) g))
 
 module _ (c : Columns) where
-  long_from_lem : (n k i h : ℕ) → n ≡ i + k → h ≡ shared_period c i → first_below i (too_long_lem c) ≡ Nothing
-      → long_from c k i h ≡ first_below n (too_long_lem c)
+  long_from_lem : (n k i h : ℕ) → n ≡ i + k → h ≡ shared_period c i → first_below i (too_long c) ≡ Nothing
+      → long_from c k i h ≡ first_below n (too_long c)
   unfolding long_from
-  long_from_lem n zero i h e s f = sym f ∙ ap (λ (m : ℕ). first_below m (too_long_lem c)) (omega arith)
+  long_from_lem n zero i h e s f = sym f ∙ ap (λ (m : ℕ). first_below m (too_long c)) (omega arith)
   long_from_lem n (suc k) i h e s f =
       forced_is (cond (leb (at c.queues i) 2) (lcm_forced h (at c.periods i)) h) (λ g. cond (ltb 1000000000000 g) (At i) (long_from c k (suc i) g))
       ∙ go (cond (leb (at c.queues i) 2) (lcm_forced h (at c.periods i)) h) (ltb 1000000000000 (cond (leb (at c.queues i) 2) (lcm_forced h (at c.periods i)) h))
       (ap (λ (l : ℕ). cond (leb (at c.queues i) 2) l h) (lcm_forced_lem h (at c.periods i)) ∙ shared_suc c i h s) refl (long_from_lem n k (suc i))
     where
       go : (g : ℕ) (t : Bool) → g ≡ shared_period c (suc i) → ltb 1000000000000 g ≡ t
-          → ((g : ℕ) → n ≡ suc i + k → g ≡ shared_period c (suc i) → first_below (suc i) (too_long_lem c) ≡ Nothing
-          → long_from c k (suc i) g ≡ first_below n (too_long_lem c))
-          → cond t (At i) (long_from c k (suc i) g) ≡ first_below n (too_long_lem c)
-      go g true es et rest = sym (first_hit (too_long_lem c) n i (omega arith) (long_test c i g true es et) f)
-      go g false es et rest = rest g (omega arith) es (first_next (too_long_lem c) i (long_test c i g false es et) f)
+          → ((g : ℕ) → n ≡ suc i + k → g ≡ shared_period c (suc i) → first_below (suc i) (too_long c) ≡ Nothing
+          → long_from c k (suc i) g ≡ first_below n (too_long c))
+          → cond t (At i) (long_from c k (suc i) g) ≡ first_below n (too_long c)
+      go g true es et rest = sym (first_hit (too_long c) n i (omega arith) (long_test c i g true es et) f)
+      go g false es et rest = rest g (omega arith) es (first_next (too_long c) i (long_test c i g false es et) f)
 
 -- the outcome
 unfoldable pub fixed_outcome : Columns → Outcome
@@ -197,5 +197,5 @@ fixed_outcome_lem c pos =
     let same : (queue : ℕ) → first_below n (fixed_late queue c) ≡ first_below n (late queue c) =
     λ queue. first_same (fixed_late queue c) (late queue c) n (λ i h. late_same queue c i h pos)
     in
-    let long : long_from c n 0 1 ≡ first_below n (too_long_lem c) = long_from_lem c n n 0 1 (omega arith) (shared_start c) (first_start (too_long_lem c)) in
+    let long : long_from c n 0 1 ≡ first_below n (too_long c) = long_from_lem c n n 0 1 (omega arith) (shared_start c) (first_start (too_long c)) in
     rw (long, same 2, same 3)

@@ -19,7 +19,7 @@ use Rattle.table.proofs.RefusalLaws.{first_of_zero}
 use Rattle.judging.specs.declared.Columns.{Columns}
 use Rattle.judging.specs.declared.Outcome.{Outcome}
 use Rattle.judging.specs.Columns.{at, columns_of}
-use Rattle.judging.specs.Periods.{shared_period, too_long_lem, above_one, over_full}
+use Rattle.judging.specs.Periods.{shared_period, too_long, above_one, over_full}
 use Rattle.judging.specs.Demands.{decided, time_dp2, time_fp}
 use Rattle.judging.specs.Ranges.{InRange}
 use Rattle.judging.specs.Verdicts.{
@@ -99,12 +99,12 @@ module _ (c : Columns) (r : InRange c) where
 
   -- a table that passes is given 0
   passed : 1 ≤ length c.queues → AllFive c → outcome_at 0 Nothing ≡ outcome_of c
-  unfolding over_full above_one first_long too_long_lem first_late late
+  unfolding over_full above_one first_long too_long first_late late
   passed some f =
       let h = f.shared.0 in
       let s = f.shared.1 in
       outcome_0 c (ne_eqb (length c.queues) 0 (λ z. omega arith))
-      (none_first (too_long_lem c) (length c.queues)
+      (none_first (too_long c) (length c.queues)
       (λ i l.
       le-ltb 1000000000000 (shared_period c (suc i))
       (le_trans

@@ -36,7 +36,7 @@ use lib.Dec.{eqb, leb, ltb}
 use borrow.Author.Tests.{eqb-true, eqb-false, leb-true, leb-false, le-leb, lt-leb, lt-ltb, le-ltb, ne_eqb}
 use Rattle.judging.specs.declared.Columns.{Columns}
 use Rattle.judging.specs.Columns.{at, columns}
-use Rattle.judging.specs.Periods.{gcd_in, gcd_of, lcm_of, shared_period, IsSharedPeriod, too_long_lem}
+use Rattle.judging.specs.Periods.{gcd_in, gcd_of, lcm_of, shared_period, IsSharedPeriod, too_long}
 
 -- more steps than are needed change nothing
 same_steps : (f g a b : ℕ) → b < f → b < g → gcd_in f a b ≡ gcd_in g a b
@@ -217,17 +217,17 @@ module _ (c : Columns) where
   unfolding shared_period
   shared_suc i h e = ap (λ (z : ℕ). cond (leb (at c.queues i) 2) (lcm_of z (at c.periods i)) z) e
 
-  pub long_test : (i g : ℕ) (t : Bool) → g ≡ shared_period c (suc i) → ltb 1000000000000 g ≡ t → too_long_lem c i ≡ t
-  unfolding too_long_lem
+  pub long_test : (i g : ℕ) (t : Bool) → g ≡ shared_period c (suc i) → ltb 1000000000000 g ≡ t → too_long c i ≡ t
+  unfolding too_long
   long_test i g t e h = ap (ltb 1000000000000) (sym e) ∙ h
 
   -- the test of 10
-  pub too_long : (i : ℕ) → 1000000000000 < shared_period c (i + 1) → too_long_lem c i ≡ true
-  unfolding too_long_lem
-  too_long i h = lt-ltb 1000000000000 (shared_period c (suc i)) (rw (add-one i) at h)
+  pub too_long_lem : (i : ℕ) → 1000000000000 < shared_period c (i + 1) → too_long c i ≡ true
+  unfolding too_long
+  too_long_lem i h = lt-ltb 1000000000000 (shared_period c (suc i)) (rw (add-one i) at h)
 
-  pub not_long : (i : ℕ) → shared_period c (i + 1) ≤ 1000000000000 → too_long_lem c i ≡ false
-  unfolding too_long_lem
+  pub not_long : (i : ℕ) → shared_period c (i + 1) ≤ 1000000000000 → too_long c i ≡ false
+  unfolding too_long
   not_long i h = le-ltb 1000000000000 (shared_period c (suc i)) (rw (add-one i) at h)
 
 -- loads and spans have no part in the shared period

@@ -18,7 +18,7 @@ use Rattle.judging.specs.declared.Outcome.{Outcome}
 use Rattle.judging.specs.declared.Verdict.{Verdict}
 use Rattle.judging.specs.declared.Shared.TheVariants.{Above, Within}
 use Rattle.judging.specs.Columns.{columns}
-use Rattle.judging.specs.Periods.{shared_period, too_long_lem, over_full}
+use Rattle.judging.specs.Periods.{shared_period, too_long, over_full}
 use Rattle.judging.specs.Ranges.{InRange, Common}
 use Rattle.judging.specs.Verdicts.{
   first_below,
@@ -41,10 +41,10 @@ use Rattle.judging.proofs.PeriodLaws.{shared_least, shared_dated}
 module _ (c : Columns) where
   -- the answer about the shared period, for which no loads and no spans are lent
   dated : shared_of (columns c.queues c.periods []) ≡ shared_of c
-  unfolding shared_of first_long too_long_lem
+  unfolding shared_of first_long too_long
   dated =
       rw (
-        first_same (too_long_lem (columns c.queues c.periods [])) (too_long_lem c) (length c.queues)
+        first_same (too_long (columns c.queues c.periods [])) (too_long c) (length c.queues)
             (λ i h. ap (ltb 1000000000000) (shared_dated c (suc i))),
         shared_dated c (length c.queues),
       )
@@ -68,8 +68,8 @@ module _ (c : Columns) where
       go Nothing k = (refl, cc)
 
   -- a shared period that is not above 10^12 at any task is not
-  shared_most : (n : ℕ) → ((i : ℕ) → i < n → too_long_lem c i ≡ false) → shared_period c n ≤ 1000000000000
-  unfolding too_long_lem shared_period
+  shared_most : (n : ℕ) → ((i : ℕ) → i < n → too_long c i ≡ false) → shared_period c n ≤ 1000000000000
+  unfolding too_long shared_period
   shared_most zero h = omega arith
   shared_most (suc n) h = ltb-false 1000000000000 (shared_period c (suc n)) (h n (omega arith))
 
@@ -80,7 +80,7 @@ module _ (c : Columns) where
       let s = shared_least c (length c.queues) (λ j h. omega (arith, r.periods.least j h)) in
       record {
         positive = s.positive;
-        most = shared_most (length c.queues) (first_none (too_long_lem c) (length c.queues) e);
+        most = shared_most (length c.queues) (first_none (too_long c) (length c.queues) e);
         multiple = λ j h q. s.common j h (omega arith);
       }
 
@@ -124,10 +124,10 @@ module _ (c : Columns) where
   place_below number i e = go (eqb number 10) (eqb number 13) (eqb number 14) e
     where
       go : (x y z : Bool)
-          → cond x (first_below (length c.queues) (too_long_lem c))
+          → cond x (first_below (length c.queues) (too_long c))
           (cond y (first_below (length c.queues) (late 2 c)) (cond z (first_below (length c.queues) (late 3 c)) Nothing))
           ≡ At i → i < length c.queues
-      go true y z k = (first_found (too_long_lem c) (length c.queues) i k).0
+      go true y z k = (first_found (too_long c) (length c.queues) i k).0
       go false true z k = (first_found (late 2 c) (length c.queues) i k).0
       go false false true k = (first_found (late 3 c) (length c.queues) i k).0
       go false false false k = let z : ◌≡◌ {A = ℕ} 0 1 = cc in absurd (omega arith)

@@ -28,8 +28,8 @@ pub record IsSharedPeriod (c : Columns) (tasks h : ℕ) : Type 0 where
   pub least : (m : ℕ) → 1 ≤ m → ((j : ℕ) → j < tasks → at c.queues j ≤ 2 → at c.periods j ∣ m) → h ≤ m
 
 -- 01, "Numbers that come back", 10: shared period of the DP tasks above 10^12, at the task of this position
-unfoldable pub too_long_lem : Columns → ℕ → Bool
-too_long_lem c i = ltb 1000000000000 (shared_period c (suc i))
+unfoldable pub too_long : Columns → ℕ → Bool
+too_long c i = ltb 1000000000000 (shared_period c (suc i))
 
 -- the sum of two fractions, numerator and denominator
 unfoldable pub plus : ℕ × ℕ → ℕ × ℕ → ℕ × ℕ

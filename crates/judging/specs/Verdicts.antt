@@ -12,7 +12,7 @@ use Rattle.judging.specs.declared.Shared.{Shared}
 use Rattle.judging.specs.declared.Shared.TheVariants.{Above, Within}
 use Rattle.judging.specs.declared.Verdict.{Verdict}
 use Rattle.judging.specs.Columns.{at, columns_of}
-use Rattle.judging.specs.Periods.{shared_period, too_long_lem, over_full}
+use Rattle.judging.specs.Periods.{shared_period, too_long, over_full}
 use Rattle.judging.specs.Demands.{decided, time_dp2, time_fp}
 
 -- the first place of two
@@ -32,7 +32,7 @@ found Nothing = false
 
 -- 10: the first task at which the shared period is above 10^12
 unfoldable pub first_long : Columns → Found
-first_long c = first_below (length c.queues) (too_long_lem c)
+first_long c = first_below (length c.queues) (too_long c)
 
 -- the shared period of all DP tasks, or where it grew above 10^12
 unfoldable pub shared_by : Found → ℕ → Shared

@@ -40,7 +40,7 @@ use Rattle.judging.proofs.FixedLaws.{
   shared_forced,
   shared_forced_lem,
   long_from,
-  fixed_from_lem,
+  fixed_from,
   fixed_up_to,
   fixed_late,
   fixed_outcome,
@@ -138,7 +138,7 @@ all_parts (suc n) [] a b = tt
 all_parts (suc n) (c ∷ rest) a b = (a.0, all_parts n rest a.1 b)
 
 judged_rows : (every right (take 8 cases) ≡ true) × (every right guards ≡ true)
-unfolding cases guards right rightly same every fixed_verdict forced forced_list forced_columns gcd_forced lcm_forced shared_forced long_from fixed_from_lem fixed_up_to fixed_late fixed_outcome tasks_in counts_of choice_unblocked sum_by charge_by load_by charge_of load_of plus fractions above_one over_full sum_to ceil star counted demand_dp2 demand_fp or_else first_below found columns_of name_of named built_in span_of first_of sum_of count_of
+unfolding cases guards right rightly same every fixed_verdict forced forced_list forced_columns gcd_forced lcm_forced shared_forced long_from fixed_from fixed_up_to fixed_late fixed_outcome tasks_in counts_of choice_unblocked sum_by charge_by load_by charge_of load_of plus fractions above_one over_full sum_to ceil star counted demand_dp2 demand_fp or_else first_below found columns_of name_of named built_in span_of first_of sum_of count_of
 judged_rows = (refl, refl)
 
 p1_p9 : All (take 8 cases)

@@ -17,7 +17,7 @@ use Rattle.table.specs.Sums.{any}
 use Rattle.table.proofs.SumLaws.{both, both_left, both_right}
 use Rattle.judging.specs.declared.Columns.{Columns}
 use Rattle.judging.specs.Columns.{at, columns_of}
-use Rattle.judging.specs.Periods.{shared_period, too_long_lem, fractions, above_one, over_full}
+use Rattle.judging.specs.Periods.{shared_period, too_long, fractions, above_one, over_full}
 use Rattle.judging.specs.Demands.{time_dp2, time_fp, decided}
 use Rattle.judging.specs.Verdicts.{
   first_below,
@@ -75,8 +75,8 @@ module _ (c : Columns) where
   full_says last = let f = fractions c last (length c.queues) in (ltb-true f.1 f.0, lt-ltb f.1 f.0)
 
   -- each test of a task in words
-  long_says : (i : ℕ) → (too_long_lem c i ≡ true) ↔ Long c i
-  unfolding too_long_lem
+  long_says : (i : ℕ) → (too_long c i ≡ true) ↔ Long c i
+  unfolding too_long
   long_says i = (ltb-true 1000000000000 (shared_period c (suc i)), lt-ltb 1000000000000 (shared_period c (suc i)))
 
   dp2_says : (i : ℕ) → (late 2 c i ≡ true) ↔ LateDp2 c i
@@ -93,7 +93,7 @@ module _ (c : Columns) where
       let n = length c.queues in
       first_that
       (test_says (eqb-true n 0, eq-eqb n 0)
-      (λ p7. test_says (found_is n (too_long_lem c) (Long c) long_says)
+      (λ p7. test_says (found_is n (too_long c) (Long c) long_says)
       (λ p10. test_says (full_says 1)
       (λ p11. test_says (full_says 2)
       (λ p12. test_says (found_is n (late 2 c) (LateDp2 c) dp2_says)
@@ -140,7 +140,7 @@ pub judge_names : JudgeNames
 unfolding verdict_of named outcome_of number_of place_of first_long first_late any
 judge_names tasks board =
     let c = columns_of tasks board in (
-      λ e. names tasks board 10 (too_long_lem c) (Long c) (long_says c) refl (alone _ (picked 10 _ e (eqb-false 10 0 refl))) e,
+      λ e. names tasks board 10 (too_long c) (Long c) (long_says c) refl (alone _ (picked 10 _ e (eqb-false 10 0 refl))) e,
       λ e. names tasks board 13 (late 2 c) (LateDp2 c) (dp2_says c) refl (alone _ (picked 13 _ e (eqb-false 13 0 refl))) e,
       λ e. names tasks board 14 (late 3 c) (LateFp c) (fp_says c) refl (alone _ (picked 14 _ e (eqb-false 14 0 refl))) e,
       names_none tasks board,

@@ -329,7 +329,7 @@ list_table_lem list h = subst (ListedTable list) (sym (ap (λ (l : Loaded). l.st
                     (w.0, omega (arith, count), is w.0 w.1 _ (ap (λ (l : List Task). get_or l i blank_task) all ∙ w.2))
               ];
           no_sems = refl;
-          no_board_lem = refl;
+          no_board = refl;
         }
 
 -- a table whose numbers are 1 to n in order, with neither semaphores nor a board record, as it is after loading

@@ -115,7 +115,7 @@ pub record ListedTable (list : List ℕ) (s : State) : Type 0 where
   pub has : (place : ℕ) → place < s.n → (i : ℕ) × (i < s.n) × IsListed place (get_or (records_of list) place []) (task_at (tasks_of s) i)
   pub no_other : (i : ℕ) → i < s.n → (place : ℕ) × (place < s.n) × IsListed place (get_or (records_of list) place []) (task_at (tasks_of s) i)
   pub no_sems : s.m ≡ 0
-  pub no_board_lem : s.present ≡ false
+  pub no_board : s.present ≡ false
 
 abbrev pub ListTable : Type 0
 ListTable = (list : List ℕ) → (read_of list).number ≡ 0 → ListedTable list (read_of list).state

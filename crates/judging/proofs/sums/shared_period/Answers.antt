@@ -9,10 +9,10 @@ use Rattle.table.specs.declared.Found.{Found}
 use Rattle.table.specs.declared.Found.TheVariants.{Nothing}
 use Rattle.judging.specs.declared.Shared.TheVariants.{Within}
 use Rattle.judging.specs.Columns.{at, columns}
-use Rattle.judging.specs.Periods.{gcd_of, shared_period, too_long_lem}
+use Rattle.judging.specs.Periods.{gcd_of, shared_period, too_long}
 use Rattle.judging.specs.Ranges.{PeriodsInRange}
 use Rattle.judging.specs.Verdicts.{first_below, first_long, shared_by, shared_of}
-use Rattle.judging.proofs.PeriodLaws.{gcd_pos, gcd_part_pos, shared_in, shared_out, too_long, not_long, product_above, product_within}
+use Rattle.judging.proofs.PeriodLaws.{gcd_pos, gcd_part_pos, shared_in, shared_out, too_long_lem, not_long, product_above, product_within}
 use Rattle.judging.proofs.FirstLaws.{first_start, first_hit, first_miss}
 use Rattle.judging.proofs.sums.shared_period.Goals.{then-queues-i-le2+else-part-h, else-queues-i-le2}
 use Rattle.judging.proofs.sums.shared_period.Goals as goal
@@ -26,7 +26,7 @@ part h p g hh hp e = subst (λ (x : ℕ). 0 < p / x) (sym e) (gcd_part_pos h p h
 
 pub loop-i-init : goal.loop-i-init
 unfolding shared_period
-loop-i-init c = (omega arith, refl, omega arith, omega arith, first_start (too_long_lem (columns c.args.queues.now c.args.periods.now [])))
+loop-i-init c = (omega arith, refl, omega arith, omega arith, first_start (too_long (columns c.args.queues.now c.args.periods.now [])))
 
 pub nonzero_div-part : goal.nonzero_div-part
 nonzero_div-part c =
@@ -49,11 +49,11 @@ returns-then-part-h c =
     let pos = part l.h (at a.periods.now l.i) c.gcd.result l.invariant.2 (period _ a.periods.now l.i c.requires.1 c.loop-i-test.true) c.gcd.ensures in
     let grown = shared_in g l.i l.h c.gcd.result c.if-queues-i-le2.true l.invariant.1 c.gcd.ensures in
     let above =
-    too_long g l.i (subst (λ (z : ℕ). 1000000000000 < z) grown (product_above 1000000000000 l.h _ pos c.if-part-h.true))
+    too_long_lem g l.i (subst (λ (z : ℕ). 1000000000000 < z) grown (product_above 1000000000000 l.h _ pos c.if-part-h.true))
     in
     sym
     (ap (λ (f : Found). shared_by f (shared_period g (length a.queues.now)))
-    (first_hit (too_long_lem g) (length a.queues.now) l.i c.loop-i-test.true above l.invariant.4))
+    (first_hit (too_long g) (length a.queues.now) l.i c.loop-i-test.true above l.invariant.4))
 
 pub overflow_mul-h : goal.overflow_mul-h
 overflow_mul-h c =
@@ -85,7 +85,7 @@ loop-i-preserved c =
       facts.0,
       facts.1,
       facts.2,
-      first_miss (too_long_lem g) l.i (not_long g l.i (omega (arith, facts.0, facts.2))) l.invariant.4,
+      first_miss (too_long g) l.i (not_long g l.i (omega (arith, facts.0, facts.2))) l.invariant.4,
     )
 
 pub returns : goal.returns
@@ -98,4 +98,4 @@ returns c =
     ap Within (l.invariant.1 ∙ ap (shared_period g) e)
     ∙ sym
     (ap (λ (f : Found). shared_by f (shared_period g (length a.queues.now)))
-    (subst (λ (n : ℕ). first_below n (too_long_lem g) ≡ Nothing) e l.invariant.4))
+    (subst (λ (n : ℕ). first_below n (too_long g) ≡ Nothing) e l.invariant.4))
