@@ -37,10 +37,10 @@ module _ {A : Type 0} where
   map_same f g (x ∷ xs) h = rw (h x, map_same f g xs h)
 
   -- a list has no use for its default inside
-  pub get_d_any : (l : List A) (i : ℕ) (d e : A) → i < length l → get_or l i d ≡ get_or l i e
-  get_d_any [] i d e h = absurd (not-suc-le-zero h)
-  get_d_any (x ∷ xs) zero d e h = refl
-  get_d_any (x ∷ xs) (suc i) d e h = get_d_any xs i d e (le_of_suc-le-suc h)
+  pub get_or_any : (l : List A) (i : ℕ) (d e : A) → i < length l → get_or l i d ≡ get_or l i e
+  get_or_any [] i d e h = absurd (not-suc-le-zero h)
+  get_or_any (x ∷ xs) zero d e h = refl
+  get_or_any (x ∷ xs) (suc i) d e h = get_or_any xs i d e (le_of_suc-le-suc h)
 
 -- ranges do not see the spans
 pub unspanned : (c : Columns) → InRange c → InRange (columns c.queues c.periods c.loads)

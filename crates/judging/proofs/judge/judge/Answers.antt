@@ -17,7 +17,7 @@ use Rattle.judging.specs.Columns.{first_tasks, columns_of}
 use Rattle.judging.specs.Ranges.{InRange, SpansInRange}
 use Rattle.judging.specs.Verdicts.{outcome_of, named, verdict_of}
 use Rattle.judging.proofs.ColumnLaws.{
-  get_d_any,
+  get_or_any,
   queues_length,
   periods_length_lem,
   loads_length_lem,
@@ -167,7 +167,7 @@ returns-in-At c =
     let l : i < s.n = inside s c.requires o.result j i c.in-At.is in
     let k : i < length s.tasks = omega (arith, c.requires.sized.tasks_length, c.requires.sized.tasks_fit) in
     named_task (tasks_of s) o.result i _ c.in-At.is
-    (ap (λ (t : Task). t.number) (get_d_any s.tasks i _ blank_task k ∙ sym (get_or-take s.n s.tasks i blank_task l)))
+    (ap (λ (t : Task). t.number) (get_or_any s.tasks i _ blank_task k ∙ sym (get_or-take s.n s.tasks i blank_task l)))
     ∙ ap (named (tasks_of s)) j
 
 pub returns-in-Nothing : goal.returns-in-Nothing
