@@ -4,8 +4,7 @@ ghost use Rattle.rack.specs.Boundary.{Exported};
 use crate::refusals;
 use table::numbers;
 
-#[unsafe(no_mangle)]
-pub extern "C" fn rack_export(image: &[u8], list: &mut [u8]) -> u64
+pub fn rack_export(image: &[u8], list: &mut [u8]) -> u64
     ensures { Exported image.now list.old list.new result }
 {
     let loaded = image::load::load(image);

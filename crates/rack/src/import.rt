@@ -4,8 +4,7 @@ ghost use Rattle.rack.specs.Boundary.{Imported};
 use crate::refusals;
 use table::numbers;
 
-#[unsafe(no_mangle)]
-pub extern "C" fn rack_import(list: &[u8], buf: &mut [u8]) -> u64
+pub fn rack_import(list: &[u8], buf: &mut [u8]) -> u64
     ensures { Imported list.now buf.old buf.new result }
 {
     let read = linux::read::read(list);

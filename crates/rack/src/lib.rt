@@ -1,5 +1,5 @@
-// The boundary for other languages: a static library whose functions take slices and give numbers. include/rack.h
-// declares it for C.
+// The boundary for other languages: functions that take slices and give numbers. The crate rack_c exports them, and
+// include/rack.h declares them for C.
 #![tactic(auto)]
 
 pub mod export;

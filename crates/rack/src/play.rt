@@ -18,8 +18,7 @@ pub const ANSWER: usize = 32;
 // What an unknown call answers.
 pub const NO_CALL: u8 = 255;
 
-#[unsafe(no_mangle)]
-pub extern "C" fn rack_play(image: &[u8], script: &[u8], out: &mut [u8]) -> u64
+pub fn rack_play(image: &[u8], script: &[u8], out: &mut [u8]) -> u64
     ensures { Played image.now script.now out.old out.new result }
 {
     if script.len() % CALL != 0 {

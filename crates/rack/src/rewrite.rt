@@ -3,8 +3,7 @@ ghost use Rattle.rack.specs.Boundary.{Rewritten};
 
 use table::numbers;
 
-#[unsafe(no_mangle)]
-pub extern "C" fn rack_rewrite(image: &[u8], buf: &mut [u8]) -> u64
+pub fn rack_rewrite(image: &[u8], buf: &mut [u8]) -> u64
     ensures { Rewritten image.now buf.old buf.new result }
 {
     let loaded = image::load::load(image);

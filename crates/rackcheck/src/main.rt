@@ -1,11 +1,32 @@
 // The checking program: reads an image from standard input and prints what is to be said of it.
-use libc::{STDIN_FILENO, STDOUT_FILENO};
+#![tactic(auto)]
 
-fn main() {
+ghost use Rattle.std.specs.Prelude.{◌≤◌, length, IfOk};
+
+use std::io;
+use std::io::Read;
+
+fn main(rt: HostRuntime) -> io::Result<()> {
     // One byte more than an image may have, so that one byte too many is seen.
     let mut buffer = [255u8; 4097];
-    let n = io::read_full(STDIN_FILENO, &mut buffer);
+    let n = read_full(&mut rt.stdin(), &mut buffer)?;
     let mut text = [0u8; 4402];
     let end = report::report(&buffer[..n], &mut text);
-    io::write_all(STDOUT_FILENO, &text[..end]);
+    rt.write_all(&text[..end])
+}
+
+// Reads until the buffer is full or the input ends, and says how many bytes it put at the buffer's start. What the input
+// has beyond these is left unread.
+fn read_full<R: Read>(input: &mut R, buf: &mut [u8]) -> io::Result<usize>
+    ensures { IfOk result (λ n. n ≤ length buf.new) }
+{
+    let mut done = 0;
+    while done < buf.len() {
+        let n = input.read(&mut buf[done..])?;
+        if n == 0 {
+            break;
+        }
+        done += n;
+    }
+    Ok(done)
 }
