@@ -1,8 +1,10 @@
 // The bench figures of document 01 that are run and compared, and not proved: each line that is printed stands in the
 // file stdout.
+#![tactic(auto)]
+
 ghost use Rattle.std.specs.Prelude.{◌≤◌, length};
 
-use libc::STDOUT_FILENO;
+use std::io;
 use table::numbers;
 
 // P1 with numbers 7 and 9: a board of zeros, two DP1 tasks of period 2,000 and cost 1,000.
@@ -31,51 +33,53 @@ const LIVE_BEHIND_ERASED: [u8; 96] = [
     0, 0, 0, 0, 0, 0, 0, 0, 0, 0, 0, 0, 0, 0, 0, 0, 0, 0, 0, 0, 0, 0, 0, 0,
 ];
 
-fn main() {
+fn main(rt: HostRuntime) -> io::Result<()> {
     let p1 = P1;
-    say(&p1);
-    played(&p1, SAME_TIME);
-    played(&p1, LATER);
-    say(&p1[..0]);
-    say(&p1[..33]);
+    say(&rt, &p1)?;
+    played(&rt, &p1, SAME_TIME)?;
+    played(&rt, &p1, LATER)?;
+    say(&rt, &p1[..0])?;
+    say(&rt, &p1[..33])?;
     let erased = [255u8; 64];
-    say(&erased);
+    say(&rt, &erased)?;
     let live = LIVE_BEHIND_ERASED;
-    say(&live);
+    say(&rt, &live)
 }
 
 // What the checking program prints for an image.
-fn say(image: &[u8]) {
+fn say(rt: &impl Print, image: &[u8]) -> io::Result<()> {
     let mut text = [0u8; 4402];
     let end = report::report(image, &mut text);
     if end <= 4402 {
-        io::write_all(STDOUT_FILENO, &text[..end]);
+        rt.write_all(&text[..end])?;
     }
+    Ok(())
 }
 
 // Two calls: for each whether it was done, waits or was refused, and the task that runs after it.
-fn played(image: &[u8], script: [u8; 32]) {
+fn played(rt: &impl Print, image: &[u8], script: [u8; 32]) -> io::Result<()> {
     let mut out = [0u8; 64];
     rack::play::rack_play(image, &script, &mut out);
-    told(out[0], out[2]);
-    told(out[32], out[34]);
+    told(rt, out[0], out[2])?;
+    told(rt, out[32], out[34])
 }
 
-fn told(answer: u8, running: u8) {
+fn told(rt: &impl Print, answer: u8, running: u8) -> io::Result<()> {
     match answer {
-        numbers::DONE => tell(b"done, runs", running),
-        numbers::WAITS => tell(b"waits, runs", running),
-        _ => tell(b"refused, runs", running),
+        numbers::DONE => tell(rt, b"done, runs", running),
+        numbers::WAITS => tell(rt, b"waits, runs", running),
+        _ => tell(rt, b"refused, runs", running),
     }
 }
 
-fn tell(word: &[u8], running: u8)
+fn tell(rt: &impl Print, word: &[u8], running: u8) -> io::Result<()>
     requires { length word.now ≤ 32 }
 {
     let numbers = [running as u64];
     let mut line = [0u8; 64];
     let end = lines::put_line(&mut line, 0, word, &numbers);
     if end <= 64 {
-        io::write_all(STDOUT_FILENO, &line[..end]);
+        rt.write_all(&line[..end])?;
     }
+    Ok(())
 }

@@ -1,19 +1,24 @@
 // The calls alone, so that their instructions can be counted: reads an image of 4,096 bytes and a script of at most 256
 // records from standard input, makes the calls one after the other, and prints the sum of what they answer.
-ghost use Rattle.std.specs.Prelude.{◌≤◌, length};
+#![tactic(auto)]
 
-use libc::{STDIN_FILENO, STDOUT_FILENO};
+ghost use Rattle.std.specs.Prelude.{◌≤◌, length, IfOk};
+
 use rack::play;
+use std::io;
+use std::io::Read;
 
 // A record of a script is as include/rack.h has it, and 8 asks for the running task, 9 for a standing; 0 is no call.
 const RECORDS: usize = 256;
 
-fn main() {
+fn main(rt: HostRuntime) -> io::Result<()> {
+    let mut input = rt.stdin();
     let mut image = [255u8; 4096];
-    io::read_full(STDIN_FILENO, &mut image);
+    read_full(&mut input, &mut image)?;
     let mut script = [0u8; 4096];
-    io::read_full(STDIN_FILENO, &mut script);
-    io::print_decimal(STDOUT_FILENO, sum_of(&image, &script));
+    read_full(&mut input, &mut script)?;
+    let sum = sum_of(&image, &script);
+    print!(rt; "{sum}")
 }
 
 // The sum of all answers; for running the task's number, for a standing its queue.
@@ -45,4 +50,20 @@ fn sum_of(image: &[u8], script: &[u8]) -> u64
         i += 1;
     }
     sum
+}
+
+// Reads until the buffer is full or the input ends, and says how many bytes it put at the buffer's start. What the input
+// has beyond these is left unread.
+fn read_full<R: Read>(input: &mut R, buf: &mut [u8]) -> io::Result<usize>
+    ensures { IfOk result (λ n. n ≤ length buf.new) }
+{
+    let mut done = 0;
+    while done < buf.len() {
+        let n = input.read(&mut buf[done..])?;
+        if n == 0 {
+            break;
+        }
+        done += n;
+    }
+    Ok(done)
 }
