@@ -1,5 +1,5 @@
-"""The proved programs, built when they are missing or older than their sources, with progress on standard error. What the toolchain makes under target/
-is taken over under a name of the command's own, target/command/, only once all of it is proved."""
+"""The proved programs, built when they are missing or older than their sources, with progress on standard error. What the toolchain makes in a crate's
+out/ is taken over into target/ only once all of it is proved. `python3 -m command.build` at the top makes the library for C and Rust alone."""
 import fcntl
 import os
 import re
@@ -13,20 +13,36 @@ from command.output import Trouble, murmur
 
 ROOT = os.path.dirname(os.path.dirname(os.path.realpath(__file__)))
 TARGET = os.path.join(ROOT, "target")
-MADE = os.path.join(TARGET, "command")
 CRATES = os.path.join(ROOT, "crates")
 LIST = os.path.join(ROOT, "crates.txt")
-PROVED = re.compile(r"rt: (?:(\w+) proved\b|target/staticlib/lib(\w+)\.a has )")
+LOCK = os.path.join(TARGET, "command", "lock")
+CHECKER = os.path.join(TARGET, "command", "rackcheck")
+SHARED = os.path.join(TARGET, "command", "librack.so")
+ARCHIVE = os.path.join(TARGET, "staticlib", "librack.a")
+# what the toolchain says of a crate where it begins with it, and at the end where it is proved
+BEGINS, PROVED = re.compile(r"rt: chose --jobs \d+ for (\w+)$"), re.compile(r"logic=proved ")
 
 
 def checker():
     """The path of 01's checking program."""
-    return made("rackcheck", "the checking program", ["rt", "check", "rackcheck"], os.path.join("bin", "rackcheck"), shutil.copy)
+    made([CHECKER], "the checking program", "rackcheck", ["rt", "run"], "rackcheck", [shutil.copy])
+    return CHECKER
 
 
 def shared_object():
     """The path of the proved library as a shared object."""
-    return made("librack.so", "the library", ["rt", "staticlib", "rack"], os.path.join("staticlib", "librack.a"), link)
+    library()
+    return SHARED
+
+
+def archive():
+    """The path of the proved library for C and Rust, which include/rack.h declares."""
+    library()
+    return ARCHIVE
+
+
+def library():
+    made([SHARED, ARCHIVE], "the library", "rack_c", ["rt", "lib"], "librack_c.a", [link, shutil.copy])
 
 
 def link(archive, target):
@@ -39,35 +55,36 @@ def link(archive, target):
         raise Trouble("the C compiler made no shared object:\n" + last_lines(done.stdout.decode("utf-8", "replace").splitlines()))
 
 
-def made(name, what, words, output, take_over):
-    """The path of target/command/NAME. Where it is not current it is built: `words` make target/OUTPUT, and `take_over` makes NAME of it."""
-    path = os.path.join(MADE, name)
+def made(paths, what, crate, words, output, take_overs):
+    """Sees to it that the paths are current. Where one is not, all are built: `words` in the crate's folder make out/OUTPUT, and each of `take_overs`
+    makes one path of it."""
     try:
-        if current(path):
-            return path
+        if current(paths):
+            return
         if not shutil.which(words[0]):
             raise Trouble(f"the Rattle toolchain's command '{words[0]}' is not on the PATH")
-        os.makedirs(MADE, exist_ok=True)
-        with open(os.path.join(MADE, "lock"), "w") as lock:
+        for path in (LOCK, *paths):
+            os.makedirs(os.path.dirname(path), exist_ok=True)
+        with open(LOCK, "w") as lock:
             alone(lock)
-            if not current(path):
-                renew(path, what, words, os.path.join(TARGET, output), take_over, lock)
+            if not current(paths):
+                renew(paths, what, crate, words, os.path.join(CRATES, crate, "out", output), take_overs, lock)
     except OSError as e:
         raise Trouble(f"{what} could not be built: {e.filename or TARGET}: {e.strerror or e}")
-    return path
 
 
-def current(path):
+def current(paths):
     try:
-        return os.stat(path).st_mtime >= newest_source()
+        return min(os.stat(path).st_mtime for path in paths) >= newest_source()
     except FileNotFoundError:
         return False
 
 
 def newest_source():
+    """The time of the newest file of the crates, but for what the toolchain makes in their out/ and for edits that it must refuse."""
     newest = os.path.getmtime(LIST)
     for folder, names, files in os.walk(CRATES):
-        names[:] = [n for n in names if n != "must-fail"]
+        names[:] = [n for n in names if n not in ("must-fail", "out")]
         newest = max([newest] + [os.lstat(os.path.join(folder, f)).st_mtime for f in files])
     return newest
 
@@ -81,18 +98,20 @@ def alone(lock):
         fcntl.flock(lock, fcntl.LOCK_EX)
 
 
-def renew(path, what, words, output, take_over, lock):
-    """Builds to a name of its own and renames at the end. Its time is that of the beginning: a source that changes meanwhile is newer."""
-    began, fresh = time.time(), path + ".new"
+def renew(paths, what, crate, words, output, take_overs, lock):
+    """Builds to names of its own and renames at the end. Their time is that of the beginning: a source that changes meanwhile is newer."""
+    began, fresh = time.time(), [path + ".new" for path in paths]
     if not os.path.exists(output):
-        remove(os.path.join(TARGET, "stamp", words[-1]))  # else the toolchain holds it for made
+        remove(output + ".stamp")  # else the toolchain might hold it for made
     try:
-        run(what, words, lock)
-        take_over(output, fresh)
-        os.utime(fresh, (began, began))
-        os.replace(fresh, path)
+        run(what, crate, words, lock)
+        for path, take_over in zip(fresh, take_overs):
+            take_over(output, path)
+            os.utime(path, (began, began))
+        for path, named in zip(fresh, paths):
+            os.replace(path, named)
     except BaseException:
-        for half in (fresh, path, output):
+        for half in (*fresh, *paths, output):
             remove(half)
         raise
 
@@ -102,17 +121,17 @@ def remove(path):
         os.unlink(path)
 
 
-def run(what, words, lock):
-    """Runs the toolchain and follows what it prints."""
-    progress = Progress(what, closure(words[-1]))
+def run(what, crate, words, lock):
+    """Runs the toolchain in a crate's folder and follows what it prints. A program that it runs at the end finds no input."""
     pipes = {"stdin": subprocess.DEVNULL, "stdout": subprocess.PIPE, "stderr": subprocess.STDOUT}
-    made, said = subprocess.Popen(words, cwd=ROOT, pass_fds=[lock.fileno()], **pipes), []
-    with progress, made.stdout as lines:
+    made, said = subprocess.Popen(words, cwd=os.path.join(CRATES, crate), pass_fds=[lock.fileno()], **pipes), []
+    with Progress(what, closure(crate)) as progress, made.stdout as lines:
         for raw in lines:
             line = raw.decode("utf-8", "replace").rstrip("\n")
             if not progress.follow(line):
                 said.append(line)
-    if made.wait() != 0:
+        progress.ended_well = made.wait() == 0
+    if not progress.ended_well:
         raise Trouble(f"{what} could not be built:\n" + last_lines(said))
 
 
@@ -124,7 +143,7 @@ def closure(name):
     """A crate and all that it stands on, by crates.txt."""
     with open(LIST, encoding="utf-8") as f:
         lines = [line.split("#")[0] for line in f]
-    deps = {line.split(":")[0].strip(): line.split(":")[1].split() for line in lines if ":" in line}
+    deps = {line.split()[0].rstrip(":"): line.split(":")[1].split() for line in lines if ":" in line}
     reached, todo = set(), [name]
     while todo:
         crate = todo.pop()
@@ -148,6 +167,7 @@ class Progress:
     def __init__(self, what, crates):
         self.what, self.left, self.count = what, set(crates), len(crates)
         self.began, self.at, self.width = time.monotonic(), "", 0
+        self.crate, self.ended_well = None, False
         self.terminal = sys.stderr is not None and sys.stderr.isatty()
         self.ended = threading.Event()
         self.ticker = threading.Thread(target=self.tick, daemon=True)
@@ -165,7 +185,7 @@ class Progress:
         if self.terminal:
             self.ticker.join()
             murmur("\r" + " " * self.width + "\r")
-        if not self.left:
+        if self.ended_well:
             self.tell(f"{self.what} is proved, {self.seconds()} s")
 
     def seconds(self):
@@ -175,10 +195,13 @@ class Progress:
         murmur(f"rack: {text}\n")
 
     def follow(self, line):
-        """Takes a line of the toolchain's, and gives whether it tells of a crate that is proved, which is a step."""
-        found = PROVED.match(line)
-        crate = found and (found.group(1) or found.group(2))
-        if crate not in self.left:
+        """Takes a line of the toolchain's, and gives whether it tells of a crate that is proved, which is a step. Of a crate that was proved before and
+        has not changed the toolchain says nothing."""
+        begins = BEGINS.match(line)
+        if begins:
+            self.crate = begins.group(1)
+        crate = self.crate
+        if not PROVED.match(line) or crate not in self.left:
             return False
         self.left.discard(crate)
         self.at = f"{self.what}: {self.count - len(self.left)} of {self.count} crates, {crate} proved"
@@ -194,3 +217,10 @@ class Progress:
             murmur("\r" + text.ljust(self.width))
             self.width = len(text)
             waiting = not self.ended.wait(0.5)
+
+
+if __name__ == "__main__":
+    try:
+        print(archive())
+    except Trouble as e:
+        sys.exit(f"rack: {e}")

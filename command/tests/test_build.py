@@ -8,30 +8,38 @@ import subprocess
 import time
 from contextlib import contextmanager
 
+from command import build
 from command.tests.bench import GOOD, PLAIN, ROOT, Bench, contents
 
-CRATES = "# a line for each crate\none:\ntwo: one\nother:\nrack: two\nrackcheck: io two\n"
+CRATES = "# a line for each crate\none:\ntwo: one\nother:\nrack: two\nrack_c staticlib: rack\nrackcheck: two\n"
 RT = """\
 #!/bin/sh
-# in the place of rt: says what it would say, and hands out the program or library that stands beside it
+# in the place of rt: says what it would say in a crate's folder, and hands out the program or library that stands beside it
 here=$(dirname "$0")
-echo "$*" >>"$here/calls"
-echo "rt: one proved (1 s)"
+crate=$(basename "$(pwd)")
+proved() {
+    echo "rt: chose --jobs 2 for $1"
+    echo "fn $1::something: proved"
+    echo "logic=proved functions=1"
+}
+echo "$* in $crate" >>"$here/calls"
+proved one
 while [ -e "$here/hold" ]; do sleep 0.1; done
-echo "fn two::something: proved"
-echo "rt: two proved (unchanged since it was last proved)"
-mkdir -p target/bin target/staticlib
+proved two
+mkdir -p out
 case $1 in
-check) out=target/bin/rackcheck last="rackcheck proved (1 s)" ;;
-*) out=target/staticlib/librack.a last="target/staticlib/librack.a has the functions" ;;
+run) out=out/rackcheck ;;
+*) out=out/librack_c.a && proved rack ;;
 esac
 if [ -e "$here/fails" ]; then
     echo half >"$out"
-    echo "rt: $2 NOT PROVED (exit 1, 3 s)"
+    echo "rt: chose --jobs 2 for $crate"
+    echo "fn $crate::something: not proved"
     exit 1
 fi
 cp "$here/$(basename "$out")" "$out"
-echo "rt: $last"
+proved $crate
+echo "rt: running $out"
 """
 
 
@@ -40,14 +48,15 @@ class Build(Bench):
         """A tree with the command, two small crates, and tools of its own."""
         super().setUp()
         self.tree, self.tools = self.path("tree"), self.path("tools")
-        os.makedirs(os.path.join(self.tree, "crates", "one", "src"))
+        for crate in ("one", "rack_c", "rackcheck"):
+            os.makedirs(os.path.join(self.tree, "crates", crate, "src"))
         os.mkdir(self.tools)
         shutil.copytree(os.path.join(ROOT, "command"), os.path.join(self.tree, "command"), ignore=shutil.ignore_patterns("tests", "__pycache__"))
         shutil.copy(os.path.join(ROOT, "rack"), self.tree)
         self.source = self.put("tree/crates/one/src/lib.rt")
         self.put("tree/crates.txt", CRATES.encode())
         shutil.copy(self.checker, os.path.join(self.tools, "rackcheck"))
-        shutil.copy(os.path.join(ROOT, "target", "staticlib", "librack.a"), self.tools)
+        shutil.copy(build.archive(), os.path.join(self.tools, "librack_c.a"))
         os.chmod(self.put("tools/rt", RT.encode()), 0o755)
         self.environment = {**PLAIN, "PATH": self.tools + ":" + os.environ["PATH"]}
         past = time.time() - 100
@@ -82,9 +91,10 @@ class Build(Bench):
             return []
 
     def made(self):
-        """The programs and libraries under target/."""
-        found = [os.path.join(folder, f) for folder, _, names in os.walk(os.path.join(self.tree, "target")) for f in names]
-        return sorted(os.path.relpath(path, self.tree) for path in found if not path.endswith("/lock"))
+        """The programs and libraries under target/ and in a crate's out/."""
+        found = [os.path.join(folder, f) for top in ("target", "crates") for folder, _, names in os.walk(os.path.join(self.tree, top)) for f in names]
+        found = sorted(os.path.relpath(path, self.tree) for path in found)
+        return [path for path in found if not path.endswith("/lock") and (path.startswith("target/") or "/out/" in path)]
 
     def test_progress(self):
         """A line for each crate, of how many, with the seconds; on standard output the answer alone."""
@@ -96,7 +106,7 @@ class Build(Bench):
             self.assertRegex(line, rf"^rack: the checking program: {text} proved, \d+ s so far$")
         self.assertEqual(len(lines), 5)
         done = self.call("inventory", GOOD)
-        self.assertRegex(done.err, r"rack: the library: 3 of 3 crates, rack proved, \d+ s so far\n")
+        self.assertRegex(done.err, r"rack: the library: 4 of 4 crates, rack_c proved, \d+ s so far\nrack: the library is proved, \d+ s\n")
         self.assertNotIn("rack:", done.out)
 
     def test_progress_on_a_terminal(self):
@@ -116,14 +126,41 @@ class Build(Bench):
     def test_only_what_is_old_is_built(self):
         self.call("check", GOOD)
         self.assertEqual(self.call("check", GOOD).err, "")
-        self.assertEqual(self.calls(), ["check rackcheck"])
+        self.assertEqual(self.calls(), ["run in rackcheck"])
         self.call("show", GOOD)
         self.assertEqual(self.call("show", GOOD).err, "")
-        self.assertEqual(self.calls(), ["check rackcheck", "staticlib rack"])
+        self.assertEqual(self.calls(), ["run in rackcheck", "lib in rack_c"])
         os.utime(self.source)
         self.call("check", GOOD)
         self.call("show", GOOD)
-        self.assertEqual(self.calls(), 2 * ["check rackcheck", "staticlib rack"])
+        self.assertEqual(self.calls(), 2 * ["run in rackcheck", "lib in rack_c"])
+
+    def test_what_the_toolchain_makes_is_no_source(self):
+        self.call("check", GOOD)
+        for name in ("rlib", "rackcheck"):
+            self.put(f"tree/crates/rackcheck/out/{name}")
+        self.assertEqual(self.call("check", GOOD).err, "")
+        self.assertEqual(self.calls(), ["run in rackcheck"])
+
+    def test_crates_that_were_proved_before(self):
+        """Of these the toolchain says nothing, and the count does not wait for them."""
+        self.put("tools/rt", RT.replace("proved one\n", "").encode())
+        done = self.call("check", GOOD)
+        for line, text in zip(done.err.splitlines()[1:3], ("1 of 3 crates, two", "2 of 3 crates, rackcheck")):
+            self.assertRegex(line, rf"^rack: the checking program: {text} proved, \d+ s so far$")
+        self.assertRegex(done.err, r"\nrack: the checking program is proved, \d+ s\n$")
+
+    def test_the_library_for_c(self):
+        """It is made beside the shared object, under its own name, and made again where it was removed."""
+        self.call("show", GOOD)
+        archive = os.path.join(self.tree, "target", "staticlib", "librack.a")
+        self.assertEqual(contents(archive), contents(os.path.join(self.tools, "librack_c.a")))
+        os.unlink(archive)
+        how = {"cwd": self.tree, "env": self.environment, "stdin": subprocess.DEVNULL, "stdout": subprocess.PIPE, "stderr": subprocess.PIPE}
+        done = subprocess.run(["python3", "-B", "-m", "command.build"], **how)
+        self.assertEqual((done.returncode, done.stdout.decode()), (0, archive + "\n"))
+        self.assertTrue(os.path.exists(archive))
+        self.assertEqual(self.calls(), 2 * ["lib in rack_c"])
 
     def test_a_source_that_changes_meanwhile(self):
         with self.held("show", GOOD) as started:
@@ -134,14 +171,14 @@ class Build(Bench):
 
     def test_a_failed_build_leaves_nothing(self):
         """Neither where nothing was built before, nor where something was; and the next call tries again."""
-        for words, crate, name in ((("check", GOOD), "rackcheck", "rackcheck"), (("show", GOOD), "rack", "librack")):
+        for words, crate, name in ((("check", GOOD), "rackcheck", "rackcheck"), (("show", GOOD), "rack_c", "librack")):
             for _ in range(2):
                 self.put("tools/fails")
                 done = self.call(*words, status=1)
                 self.assertEqual(done.out, "")
                 self.assertIn("could not be built:\n", done.err)
-                self.assertIn(f"rt: {crate} NOT PROVED (exit 1, 3 s)", done.err)
-                self.assertEqual([path for path in self.made() if name in path], [])
+                self.assertIn(f"fn {crate}::something: not proved", done.err)
+                self.assertEqual([path for path in self.made() if name in os.path.basename(path)], [])
                 os.unlink(self.path("tools/fails"))
                 self.assertNotEqual(self.call(*words).out, "")
                 os.utime(self.source)
@@ -168,10 +205,10 @@ class Build(Bench):
 
     def test_a_program_that_was_removed(self):
         """The toolchain goes by its stamp; without the program the stamp goes too."""
-        os.makedirs(os.path.join(self.tree, "target", "stamp"))
-        self.put("tree/target/stamp/rackcheck", b"proved")
+        os.makedirs(os.path.join(self.tree, "crates", "rackcheck", "out"))
+        self.put("tree/crates/rackcheck/out/rackcheck.stamp", b"proved")
         self.call("check", GOOD)
-        self.assertNotIn("target/stamp/rackcheck", self.made())
+        self.assertNotIn("crates/rackcheck/out/rackcheck.stamp", self.made())
 
     def test_two_at_once(self):
         """The second waits for the first, and builds nothing."""
@@ -180,7 +217,7 @@ class Build(Bench):
             self.assertEqual(second.stderr.readline(), b"rack: another build is under way; waiting for it\n")
         said = [p.communicate() for p in (first, second)]
         self.assertEqual([out for out, _ in said], 2 * [contents(GOOD[:-3] + "out")])
-        self.assertEqual(self.calls(), ["check rackcheck"])
+        self.assertEqual(self.calls(), ["run in rackcheck"])
 
     def test_where_nothing_can_be_written(self):
         self.put("tree/target", b"in the way")
