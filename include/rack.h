@@ -1,4 +1,4 @@
-/* The proved rack executive for C: link target/staticlib/librack.a, which `rt staticlib rack` writes.
+/* The proved rack executive for C: link target/staticlib/librack.a, which `python3 -m command.build` writes.
  *
  * All numbers are little-endian; bytes that are not named are 0 in what is written. A slice passes as a pointer and a length; a pointer of a
  * length of 0 need only be not null. What is written to must not overlap what is read.

@@ -1,4 +1,4 @@
-//! Links the proved static library, which `rt staticlib rack` writes to target/staticlib at the repository's root.
+//! Links the proved static library, which `python3 -m command.build` at the repository's root writes to target/staticlib.
 
 use std::path::Path;
 
@@ -8,7 +8,7 @@ fn main() {
     let archive = folder.join("librack.a");
     println!("cargo:rerun-if-changed={}", archive.display());
     if !archive.exists() {
-        panic!("target/staticlib/librack.a is missing: run `rt staticlib rack` at the repository's root first");
+        panic!("target/staticlib/librack.a is missing: run `python3 -m command.build` at the repository's root first");
     }
     println!("cargo:rustc-link-search=native={}", folder.display());
     println!("cargo:rustc-link-lib=static=rack");
