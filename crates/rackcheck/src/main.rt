@@ -1,7 +1,8 @@
 // The checking program: reads an image from standard input and prints what is to be said of it.
 #![tactic(auto)]
 
-ghost use Rattle.std.specs.Prelude.{◌≤◌, length, IfOk};
+ghost use Rattle.std.specs.Prelude.{◌≤◌, ◌<◌, length, take, IfOk};
+ghost use Rattle.std.specs.Io.KnownBytes.{Consumes, IsAtEnd};
 
 use std::io;
 use std::io::Read;
@@ -18,13 +19,15 @@ fn main(rt: HostRuntime) -> io::Result<()> {
 // Reads until the buffer is full or the input ends, and says how many bytes it put at the buffer's start. What the input
 // has beyond these is left unread.
 fn read_full<R: Read>(input: &mut R, buf: &mut [u8]) -> io::Result<usize>
-    ensures { IfOk result (λ n. n ≤ length buf.new) }
+    ensures inside { IfOk result (λ n. n ≤ length buf.new) }
+    ensures bytes { IfOk result (λ n. Consumes (R.remaining input.old) (R.remaining input.new) (take n buf.new)) }
+    ensures whole { IfOk result (λ n. n < length buf.new → IsAtEnd (R.remaining input.new)) }
 {
     let mut done = 0;
     while done < buf.len() {
         let n = input.read(&mut buf[done..])?;
         if n == 0 {
-            break;
+            return Ok(done);
         }
         done += n;
     }
