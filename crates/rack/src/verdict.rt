@@ -13,6 +13,7 @@ use table::numbers;
 // What judging writes: 8 bytes, and 16 for each of 64 tasks.
 pub const BYTES: usize = 1_032;
 
+#[tactic(auto, using(crate::proofs::LoadCases::judged_short))]
 pub fn rack_judge(image: &[u8], out: &mut [u8]) -> u64
     ensures { Judged image.now out.old out.new result }
 {

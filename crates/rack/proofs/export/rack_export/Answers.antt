@@ -24,7 +24,7 @@ returns-then-number-ne-DONE c =
 pub write-requires : goal.write-requires
 write-requires c =
     let l = c in
-    (sound_of l.args.image.now l.load-loaded.result l.load-loaded.ensures (λ i h. (l.shared_slice_known-1.given i).fits)).sized
+    (sound_of l.args.image.now l.load-loaded.result l.load-loaded.ensures (λ i h. (c.type_inv.image i).fits)).sized
 
 pub returns : goal.returns
 returns c =

@@ -21,7 +21,7 @@ play_all-requires c =
     let a = c.args in
     let l = c.load-loaded in
     let room = c.if-out-count.false in
-    (sound_of a.image.now l.result l.ensures (λ i h. (c.shared_slice_known-1.given i).fits), omega arith, omega arith)
+    (sound_of a.image.now l.result l.ensures (λ i h. (c.type_inv.image i).fits), omega arith, omega arith)
 
 pub returns : goal.returns
 returns c =

@@ -13,7 +13,7 @@ returns-then-number-ne-DONE c =
     read_refused (load_of a.image.now) l.load-loaded.result (λ r. r.number) write_number written a.buf.now l.load-loaded.ensures c.if-number-ne-DONE.true _ refl
 
 pub write-requires : goal.write-requires
-write-requires c = (sound_of c.args.image.now c.load-loaded.result c.load-loaded.ensures (λ i h. (c.shared_slice_known-1.given i).fits)).sized
+write-requires c = (sound_of c.args.image.now c.load-loaded.result c.load-loaded.ensures (λ i h. (c.type_inv.image i).fits)).sized
 
 pub returns : goal.returns
 returns c =

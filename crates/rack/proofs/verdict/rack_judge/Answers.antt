@@ -10,11 +10,8 @@ use Rattle.lines.proofs.PutLaws.{put_more, put_length}
 use Rattle.executive.specs.States.{tasks_of}
 use Rattle.rack.specs.Boundary.{head_bytes, entries_bytes}
 use Rattle.rack.proofs.ByteParts.{head_long}
-use Rattle.rack.proofs.LoadCases.{judged_short, judged_refused, judged_accepted, judged_put}
+use Rattle.rack.proofs.LoadCases.{judged_refused, judged_accepted, judged_put}
 use Rattle.rack.proofs.verdict.rack_judge.Goals as goal
-
-pub returns-then-out-lt-BYTES : goal.returns-then-out-lt-BYTES
-returns-then-out-lt-BYTES c = let a = c.args in judged_short a.image.now a.out.now c.if-out-lt-BYTES.true
 
 pub put_zeros-requires : goal.put_zeros-requires
 put_zeros-requires c =
@@ -30,17 +27,17 @@ returns-then-number-ne-DONE c =
     let a = c.args in
     let l = c.load-loaded in
     judged_put a.image.now a.out.now c.put_head-end.new.out c.put_zeros.new.out l.result (head_bytes l.result.number 0 l.result.place 0 0)
-    c.put_head-end.result c.if-out-lt-BYTES.false l.ensures (judged_refused l.result c.if-number-ne-DONE.true) c.put_head-end.ensures c.put_zeros.ensures
+    c.put_head-end.result (omega arith) l.ensures (judged_refused l.result c.if-number-ne-DONE.true) c.put_head-end.ensures c.put_zeros.ensures
 
 pub judge-verdict-requires : goal.judge-verdict-requires
-judge-verdict-requires c = sound_of c.args.image.now c.load-loaded.result c.load-loaded.ensures (λ i h. (c.shared_slice_known-1.given i).fits)
+judge-verdict-requires c = sound_of c.args.image.now c.load-loaded.result c.load-loaded.ensures (λ i h. (c.type_inv.image i).fits)
 
 pub put_entries-end-requires : goal.put_entries-end-requires
-put_entries-end-requires c = let n = put_length c.put_head.ensures in (sound_of c.args.image.now c.load-loaded.result c.load-loaded.ensures (λ i h. (c.shared_slice_known-1.given i).fits), omega arith)
+put_entries-end-requires c = let n = put_length c.put_head.ensures in (sound_of c.args.image.now c.load-loaded.result c.load-loaded.ensures (λ i h. (c.type_inv.image i).fits), omega arith)
 
 pub put_zeros-requires-2 : goal.put_zeros-requires-2
 put_zeros-requires-2 c =
-    let sound = sound_of c.args.image.now c.load-loaded.result c.load-loaded.ensures (λ i h. (c.shared_slice_known-1.given i).fits) in
+    let sound = sound_of c.args.image.now c.load-loaded.result c.load-loaded.ensures (λ i h. (c.type_inv.image i).fits) in
     let few = sound.sized.tasks_fit in
     let n = put_length c.put_head.ensures in
     let k = put_length c.put_entries-end.ensures.0 in
@@ -59,5 +56,5 @@ returns c =
     let long : length head ≡ 8 = head_long l.result.number v.result.number l.result.place v.result.task s.n in
     let first : Put a.out.now 0 head c.put_head.new.out 8 = record { contents = put.contents; ends = sym (zero-add (length head) ∙ long) } in
     judged_put a.image.now a.out.now c.put_entries-end.new.out c.put_zeros-2.new.out l.result (head ++ entries) c.put_entries-end.result
-    c.if-out-lt-BYTES.false l.ensures (judged_accepted l.result v.result c.if-number-ne-DONE.false v.ensures)
+    (omega arith) l.ensures (judged_accepted l.result v.result c.if-number-ne-DONE.false v.ensures)
     (put_more head entries first c.put_entries-end.ensures.0) c.put_zeros-2.ensures
