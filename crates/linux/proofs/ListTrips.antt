@@ -1,7 +1,7 @@
 -- What a list that is accepted makes of its records, and both trips of lists: the theorems of this crate, over the definitions that the contracts of
 -- `read` and `write` cite.
 --     read_ended                        an accepted list: its tasks are well formed, and are exactly those of its records
---     read_sound, read-sound-of         the state that reading hands back is sound
+--     read_sound                        the state that reading hands back is sound
 --     refused_empty                     a refused list hands back the empty state
 --     read_place                        a place is at most 64
 --     read_flat                         reading the records of tasks in DP1 that are numbered from 1 gives those tasks back

@@ -30,6 +30,7 @@ pub fn write(state: State, list: &mut [u8]) -> u8
 }
 
 // Whether some task is outside DP1.
+#[tactic(auto, using(crate::proofs::WriteLaws::outside_found))]
 fn some_outside(state: State) -> bool
     requires { Sized state }
     ensures { result ≡ any outside_dp1 (tasks_of state) }

@@ -105,11 +105,11 @@ use Rattle.image.proofs.load.load.Reads as load
 use Rattle.image.proofs.load.load.Kinds as load_kinds
 use Rattle.image.proofs.write.write.Reads as write
 use Rattle.image.proofs.write.write.Kinds as write_kinds
-use Rattle.linux.proofs.read.read.Reads as List_read
+use Rattle.linux.proofs.read.read.Reads as list_read
 use Rattle.linux.proofs.read.read.Kinds as list_read_kinds
 use Rattle.linux.proofs.write.write.Reads as list_write
 use Rattle.linux.proofs.write.write.Kinds as list_write_kinds
-use Rattle.charges.proofs.Counts.of.Reads as Counts_of
+use Rattle.charges.proofs.Counts.of.Reads as counts_of
 use Rattle.charges.proofs.Counts.of.Kinds as counts_of_kinds
 use Rattle.charges.proofs.Counts.charge.Reads as counts_charge
 use Rattle.charges.proofs.Counts.charge.Kinds as counts_charge_kinds
@@ -352,7 +352,7 @@ pub write_buffer : OneAtExit 1 write_kinds.ps write_kinds.r write.Post (λ κs e
 write_buffer κs a z z' e e' p q = p.1 ∙ sym q.1
 
 -- linux::read::read
-pub list_read_one : OneResult 1 list_read_kinds.ps list_read_kinds.r List_read.Post
+pub list_read_one : OneResult 1 list_read_kinds.ps list_read_kinds.r list_read.Post
 list_read_one κs a z z' e e' p q = p ∙ sym q
 
 -- linux::write::write
@@ -363,7 +363,7 @@ pub list_write_buffer : OneAtExit 1 list_write_kinds.ps list_write_kinds.r list_
 list_write_buffer κs a z z' e e' p q = p.1 ∙ sym q.1
 
 -- charges::Counts::of
-pub counts_of_one : OneResult 0 counts_of_kinds.ps counts_of_kinds.r Counts_of.Post
+pub counts_of_one : OneResult 0 counts_of_kinds.ps counts_of_kinds.r counts_of.Post
 counts_of_one κs a z z' e e' p q = p ∙ sym q
 
 -- charges::Counts::charge

@@ -1,5 +1,5 @@
 -- What a task is doing as a number, by which the code tells one status from another. Nobody need believe anything of it: the contracts of the calls
--- cite is_idle, is_ready, is_event and waitsFor.
+-- cite is_idle, is_ready, is_event and waits_for.
 use Rattle.std.specs.Prelude.{ℕ}
 use Rattle.table.specs.declared.Status.{Status}
 use Rattle.table.specs.declared.Status.TheVariants.{Idle, Ready, Event, Waits}
