@@ -9,18 +9,12 @@ use Rattle.fields.proofs.PartLaws.{Filled, filled_start, filled_long, filled_end
 use Rattle.image.proofs.WriteLaws.{Entry, of_task, of_sem, encode_entry, length_entry, entries_of, flat_entries, count_entries, entry_task, entry_sem}
 use Rattle.image.proofs.write.put_entries.Goals as goal
 
--- a turn: how long the whole part is, that a record is left, and how long the part is as it is
+-- a turn: how long the whole part is, and that a record is left
 whole : (c : goal.In-loop-next) → length c.args.part.now ≡ 32 * length (entries_of c.args.state)
 whole c = let p = c in p.requires.1 ∙ omega (arith, count_entries p.args.state p.requires.0)
 
 left : (c : goal.In-loop-next) → c.loop-next.next < length (entries_of c.args.state)
 left c = let p = c in omega (arith, count_entries p.args.state p.requires.0, c.loop-next-test.true)
-
-long : (c : goal.In-loop-next) → length c.loop-next.part ≡ 32 * (c.args.state.n + c.args.state.m)
-long c =
-    let p = c in
-    filled_long encode_entry 32 length_entry (entries_of p.args.state) p.args.part.now (whole c) c.loop-next.part c.loop-next.next c.loop-next.invariant
-    ∙ p.requires.1
 
 width : (c : goal.In-loop-next)
     → length (take (c.loop-next.next * 32 + 32 - c.loop-next.next * 32) (drop (c.loop-next.next * 32) c.loop-next.part)) ≡ 32
