@@ -23,8 +23,9 @@ def stored(name):
 
 class Numbers(Bench):
     def test_each_number_of_the_proved_code_has_a_meaning(self):
-        text = contents(os.path.join(ROOT, "crates", "table", "src", "numbers.rt")).decode("utf-8")
-        self.assertEqual(set(map(int, re.findall(r"pub const \w+: u8 = (\d+);", text))), set(MEANING))
+        sources = [("table", "refusals.rt"), ("executive", "calls.rt")]
+        text = "".join(contents(os.path.join(ROOT, "crates", crate, "src", name)).decode("utf-8") for crate, name in sources)
+        self.assertEqual(set(map(int, re.findall(r"^    \w+ = (\d+),$", text, re.M))), set(MEANING))
 
 
 class Boundary(Bench):

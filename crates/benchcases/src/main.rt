@@ -5,7 +5,6 @@
 ghost use Rattle.std.specs.Prelude.{◌≤◌, length};
 
 use std::io;
-use table::numbers;
 
 // P1 with numbers 7 and 9: a board of zeros, two DP1 tasks of period 2,000 and cost 1,000.
 const P1: [u8; 96] = [
@@ -64,10 +63,11 @@ fn played(rt: &impl Print, image: &[u8], script: [u8; 32]) -> io::Result<()> {
     told(rt, out[32], out[34])
 }
 
+// An answer is a byte of what rack_play writes, as include/rack.h has it.
 fn told(rt: &impl Print, answer: u8, running: u8) -> io::Result<()> {
     match answer {
-        numbers::DONE => tell(rt, b"done, runs", running),
-        numbers::WAITS => tell(rt, b"waits, runs", running),
+        0 => tell(rt, b"done, runs", running),
+        90 => tell(rt, b"waits, runs", running),
         _ => tell(rt, b"refused, runs", running),
     }
 }

@@ -5,9 +5,12 @@
 ghost use Rattle.std.specs.Prelude.{◌≤◌, ◌<◌, length, take, IfOk};
 ghost use Rattle.std.specs.Io.KnownBytes.{Consumes, IsAtEnd};
 
+use executive::calls::Accepted;
 use rack::play;
 use std::io;
 use std::io::Read;
+use table::refusals::Refusal;
+use waits::standing::Rank;
 
 // A record of a script is as include/rack.h has it, and 8 asks for the running task, 9 for a standing; 0 is no call.
 const RECORDS: usize = 256;
@@ -29,32 +32,50 @@ fn sum_of(image: &[u8], script: &[u8]) -> u64
     let loaded = image::load::load(image);
     let mut state = loaded.state;
     let mut sum: u64 = 0;
-    let mut i: usize = 0;
-    while i < RECORDS {
+    for i in 0..RECORDS {
         let at = i * play::CALL;
         match script[at] {
             0 => {}
             8 => {
-                sum += state.running() as u64;
+                sum += state.running().unwrap_or(0) as u64;
             }
             9 => {
-                let stands = state.standing(fields::u16_at(script, at + 2));
-                sum += stands.queue as u64;
+                let stands = state.standing(fields::read(script, at + 2));
+                sum += queue(stands) as u64;
             }
-            _ => {
-                let moved = play::play_one(state, script, at);
-                sum += moved.answer as u64;
-                let next = moved.state;
-                state = next;
-            }
+            _ => match play::play_one(state, script, at) {
+                None => {
+                    sum += play::NO_CALL as u64;
+                }
+                Some(moved) => {
+                    sum += number(moved.answer) as u64;
+                    state = moved.state;
+                }
+            },
         }
-        i += 1;
     }
     sum
 }
 
+// The number that an answer is told as.
+fn number(answer: Result<Accepted, Refusal>) -> u8 {
+    match answer {
+        Ok(accepted) => accepted as u8,
+        Err(refusal) => refusal.number(),
+    }
+}
+
+// The queue of a standing, 0 where it is refused.
+fn queue(stands: Result<Rank, Refusal>) -> u8 {
+    match stands {
+        Ok(rank) => rank.queue,
+        Err(_) => 0,
+    }
+}
+
 // Reads until the buffer is full or the input ends, and says how many bytes it put at the buffer's start. What the input
-// has beyond these is left unread.
+// has beyond these is left unread. Each program that reads has this function: a library's public function would owe the
+// statement that its contract allows one result, and reading has more.
 fn read_full<R: Read>(input: &mut R, buf: &mut [u8]) -> io::Result<usize>
     ensures inside { IfOk result (λ n. n ≤ length buf.new) }
     ensures bytes { IfOk result (λ n. Consumes (R.remaining input.old) (R.remaining input.new) (take n buf.new)) }

@@ -1,28 +1,21 @@
--- The laws of charges: how the counts grow, that r is at most n, and the bounds of a charge and a load.
+-- The laws of charges: what counts are made of, and the bounds of a charge and a load.
 -- Assumes nothing.
-use Prim.Native.Nat.{ℕ, ◌+◌, ◌*◌, ◌-◌, ◌/◌, ◌≤◌, ◌<◌, max}
-use mathlib.Core.Path.{◌≡◌, refl, sym, ap, subst}
+use Prim.Native.Nat.{ℕ, ◌+◌, ◌*◌, ◌-◌, ◌/◌, ◌≤◌, max}
+use mathlib.Core.Path.{◌≡◌, refl, ap}
 use mathlib.Core.Bool.{Bool, true, false, cond}
 use mathlib.Core.List.{List, [], ◌∷◌}
 use native.Mathlib.Nat.{mul-le-mul, max-le, add-sub_cancel_left}
 use native.Mathlib.Omega.{arith}
 use lib.Dec.{eqb, ltb}
-use lib.ListN.{length, get_or, take}
+use lib.ListN.{length}
 use borrow.Author.Tests.{eqb-true}
 use Rattle.table.specs.declared.Board.{Board}
 use Rattle.table.specs.declared.Task.{Task}
-use Rattle.table.specs.Sums.{sum_of, count_of}
 use Rattle.table.specs.WellFormed.{board_in_range}
-use Rattle.table.proofs.SumLaws.{count_of_more, count_of_bound}
+use Rattle.std.proofs.lemmas.List.Sums.{count_by-le-length, sum_by-cons}
 use Rattle.table.proofs.OrderLaws.{BoardRange, board_range}
 use Rattle.charges.specs.declared.Counts.{Counts}
-use Rattle.charges.specs.Charges.{tasks_in, counts_of, choice_dp, choice_fp, sum_dp, sum_dp1, sum_dp2, choice_unblocked, sum_fp, sum_by, charge_by, load_by, charge_of, load_of}
-
--- one task more
-pub tasks_in_more : (queue : ℕ) (tasks : List Task) (i : ℕ) (d : Task) → i < length tasks
-    → tasks_in queue (take (i + 1) tasks) ≡ tasks_in queue (take i tasks) + cond (eqb (get_or tasks i d).queue queue) 1 0
-unfolding tasks_in
-tasks_in_more queue tasks i d h = count_of_more (λ t. eqb t.queue queue) tasks i d h
+use Rattle.charges.specs.Charges.{tasks_in, counts_of, choice_dp, choice_fp, sum_dp, sum_dp1, sum_dp2, choice_unblocked, sum_fp, charge_by, load_by, charge_of, load_of}
 
 -- no task is in two queues
 one_gate : (queue : ℕ) → cond (eqb queue 1) 1 0 + cond (eqb queue 2) 1 0 ≤ 1
@@ -35,17 +28,12 @@ one_gate queue = go (eqb queue 1) (eqb queue 2) refl refl
     go false false h k = omega arith
 
 dp_fit : (tasks : List Task) → tasks_in 1 tasks + tasks_in 2 tasks ≤ length tasks
-unfolding tasks_in count_of sum_of
 dp_fit [] = omega arith
 dp_fit (t ∷ rest) =
+    let c : (k : ℕ) → tasks_in k (t ∷ rest) ≡ cond (eqb t.queue k) 1 0 + tasks_in k rest = λ k. sum_by-cons (λ (x : Task). cond (eqb x.queue k) 1 0) t rest in
     let a : cond (eqb t.queue 1) 1 0 + cond (eqb t.queue 2) 1 0 ≤ 1 = one_gate t.queue in
     let b : tasks_in 1 rest + tasks_in 2 rest ≤ length rest = dp_fit rest in
-    omega arith
-
--- r is at most n
-pub counts_fit : (tasks : List Task) (board : Board) → (counts_of tasks board).r ≤ (counts_of tasks board).n
-unfolding counts_of
-counts_fit tasks board = dp_fit tasks
+    omega (arith, c 1, c 2)
 
 -- what a choice costs, where no count is above 64 and no figure above 10,000
 record Small (c : Counts) : Type 0 where
@@ -71,7 +59,6 @@ dp_small : (c : Counts) (i j : ℕ) → Small c → i ≤ 64 → j ≤ 64 → su
 dp_small c i j s h k = omega (arith, choice_small c i s h, choice_small c j s k, s.board)
 
 unblocked_small : (c : Counts) → Small c → choice_unblocked c ≤ 680000
-unfolding choice_unblocked
 unblocked_small c s = go (ltb 0 c.r)
   where
     go : (t : Bool) → cond t (choice_dp c c.m) (choice_fp c) ≤ 680000
@@ -85,7 +72,6 @@ fp_small c s =
     omega (arith, choice_fp_small c s, unblocked_small c s, s.board)
 
 charge_small : (c : Counts) (t : Task) → Small c → charge_by c t ≤ 900000000
-unfolding charge_by sum_by
 charge_small c t s = go (eqb t.queue 1) (eqb t.queue 2)
   where
     go : (a b : Bool) → (3 * cond a (sum_dp1 c) (cond b (sum_dp2 c) (sum_fp c)) + 1) / 2 ≤ 900000000
@@ -94,16 +80,16 @@ charge_small c t s = go (eqb t.queue 1) (eqb t.queue 2)
     go false false = omega (arith, fp_small c s)
 
 counts_small : (tasks : List Task) (board : Board) → length tasks ≤ 64 → board_in_range board ≡ true → Small (counts_of tasks board)
-unfolding counts_of tasks_in
+unfolding counts_of
 counts_small tasks board h b =
-    let q : tasks_in 1 tasks ≤ length tasks = count_of_bound (λ t. eqb t.queue 1) tasks in
+    let q : tasks_in 1 tasks ≤ length tasks = count_by-le-length (λ t. eqb t.queue 1) tasks in
     let f : tasks_in 1 tasks + tasks_in 2 tasks ≤ length tasks = dp_fit tasks in
     record {
       board = board_range board b;
       n = h;
       q = omega arith;
       r = omega arith;
-      k = count_of_bound (λ queue. ltb 0 (tasks_in queue tasks)) (1 ∷ 2 ∷ 3 ∷ []);
+      k = count_by-le-length (λ queue. ltb 0 (tasks_in queue tasks)) (1 ∷ 2 ∷ 3 ∷ []);
       m = max-le (omega arith) (omega arith);
     }
 
@@ -117,13 +103,13 @@ pub load_bound : (tasks : List Task) (board : Board) (t : Task) → length tasks
 unfolding load_of load_by charge_of
 load_bound tasks board t h b cost = omega (arith, charge_bound tasks board t h b)
 
--- the counts, made of what a loop has counted in each queue
+-- the counts, made of how many tasks each queue has
 pub counts_made : (tasks : List Task) (board : Board) (n q s f k m : ℕ) → n ≡ length tasks → q ≡ tasks_in 1 tasks → s ≡ tasks_in 2 tasks → f ≡ tasks_in 3 tasks
     → k ≡ cond (ltb 0 q) 1 0 + cond (ltb 0 s) 1 0 + cond (ltb 0 f) 1 0 → m ≡ max q s
     → ◌≡◌ {A = Counts} (record { board = board; n = n; q = q; r = q + s; k = k; m = m }) (counts_of tasks board)
-unfolding counts_of count_of sum_of
+unfolding counts_of
 counts_made tasks board n q s f k m hn hq hs hf hk hm =
-    let kk : k ≡ cond (ltb 0 (tasks_in 1 tasks)) 1 0 + (cond (ltb 0 (tasks_in 2 tasks)) 1 0 + (cond (ltb 0 (tasks_in 3 tasks)) 1 0 + 0)) =
+    let kk : k ≡ 0 + cond (ltb 0 (tasks_in 1 tasks)) 1 0 + cond (ltb 0 (tasks_in 2 tasks)) 1 0 + cond (ltb 0 (tasks_in 3 tasks)) 1 0 =
     rw (hk, hq, hs, hf) (omega arith)
     in
     let mm : m ≡ max (tasks_in 1 tasks) (tasks_in 1 tasks + tasks_in 2 tasks - tasks_in 1 tasks) =
@@ -131,10 +117,7 @@ counts_made tasks board n q s f k m hn hq hs hf hk hm =
     in
     λ i. record { board = board; n = hn i; q = hq i; r = hq i + hs i; k = kk i; m = mm i }
 
--- what counts that are those of a table give: the load among its tasks, and a difference n - r that is none below 0
+-- what counts that are those of a table give: the load among its tasks
 pub load_of_lem : (c : Counts) (tasks : List Task) (board : Board) (t : Task) → c ≡ counts_of tasks board → load_by c t ≡ load_of tasks board t
 unfolding load_of
 load_of_lem c tasks board t e = ap (λ (x : Counts). load_by x t) e
-
-pub fit_of : (c : Counts) (tasks : List Task) (board : Board) → c ≡ counts_of tasks board → c.r ≤ c.n
-fit_of c tasks board e = subst (λ (x : Counts). x.r ≤ x.n) (sym e) (counts_fit tasks board)

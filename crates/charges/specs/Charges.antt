@@ -1,13 +1,12 @@
 -- The charge and the load of a task (01, "Charges").
-use Rattle.std.specs.Prelude.{ℕ, ◌+◌, ◌*◌, ◌-◌, ◌/◌, max, cond, List, [], ◌∷◌, eqb, ltb, length}
+use Rattle.std.specs.Prelude.{ℕ, ◌+◌, ◌*◌, ◌-◌, ◌/◌, max, cond, List, [], ◌∷◌, eqb, ltb, length, count_by}
 use Rattle.table.specs.declared.Board.{Board}
 use Rattle.table.specs.declared.Task.{Task}
-use Rattle.table.specs.Sums.{count_of}
 use Rattle.charges.specs.declared.Counts.{Counts}
 
 -- how many tasks a queue has
-unfoldable pub tasks_in : ℕ → List Task → ℕ
-tasks_in queue tasks = count_of (λ t. eqb t.queue queue) tasks
+abbrev pub tasks_in : ℕ → List Task → ℕ
+tasks_in queue tasks = count_by (λ t. eqb t.queue queue) tasks
 
 -- 01, "Charges": n tasks, q in DP1, r in DP1 and DP2 together, k queues that are not empty, m the larger of q and r − q
 unfoldable pub counts_of : List Task → Board → Counts
@@ -17,7 +16,7 @@ counts_of tasks board =
       n = length tasks;
       q = tasks_in 1 tasks;
       r = tasks_in 1 tasks + tasks_in 2 tasks;
-      k = count_of (λ queue. ltb 0 (tasks_in queue tasks)) (1 ∷ 2 ∷ 3 ∷ []);
+      k = count_by (λ queue. ltb 0 (tasks_in queue tasks)) (1 ∷ 2 ∷ 3 ∷ []);
       m = max (tasks_in 1 tasks) (tasks_in 1 tasks + tasks_in 2 tasks - tasks_in 1 tasks);
     }
 
@@ -42,7 +41,7 @@ abbrev pub sum_dp2 : Counts → ℕ
 sum_dp2 c = sum_dp c c.r c.m
 
 -- FP: choice over m if r > 0, else FP choice
-unfoldable pub choice_unblocked : Counts → ℕ
+abbrev pub choice_unblocked : Counts → ℕ
 choice_unblocked c = cond (ltb 0 c.r) (choice_dp c c.m) (choice_fp c)
 
 -- FP: FP block + (n − r) × per task + FP choice + FP unblock + that choice
@@ -50,11 +49,11 @@ abbrev pub sum_fp : Counts → ℕ
 sum_fp c = c.board.fp_block + (c.n - c.r) * c.board.fp_block_task + choice_fp c + c.board.fp_unblock + choice_unblocked c
 
 -- a task's sum is that of its own queue
-unfoldable pub sum_by : Counts → Task → ℕ
+abbrev pub sum_by : Counts → Task → ℕ
 sum_by c t = cond (eqb t.queue 1) (sum_dp1 c) (cond (eqb t.queue 2) (sum_dp2 c) (sum_fp c))
 
 -- 01, "Charges": the charge is 3/2 of the sum, rounded up to a whole tick
-unfoldable pub charge_by : Counts → Task → ℕ
+abbrev pub charge_by : Counts → Task → ℕ
 charge_by c t = (3 * sum_by c t + 1) / 2
 
 -- 01, "Charges": a task's load is cost plus its own queue's charge

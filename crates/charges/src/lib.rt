@@ -1,8 +1,9 @@
 // The charge of each task: what blocking, unblocking and choosing cost it (document 01, "Charges").
 #![tactic(auto)]
 
-ghost use Rattle.std.specs.Prelude.{◌≡◌, cond, ◌*◌, ◌≤◌, max, take};
+ghost use Rattle.std.specs.Prelude.{◌≡◌, ◌*◌, ◌≤◌, length};
 ghost use Rattle.charges.specs.Charges.{
+  tasks_in,
   counts_of,
   choice_dp,
   choice_fp,
@@ -35,46 +36,32 @@ fn times(count: u8, figure: u16) -> u64
     count as u64 * figure as u64
 }
 
-// 1 where the test holds: for a task of a queue, for a queue that is not empty.
-fn one_if(test: bool) -> u8
-    ensures { (result ≡ cond test 1 0) × (result ≤ 1) }
+// How many of the tasks stand in a queue. That there are at most 64 is a clause here and wherever tasks are lent: a type
+// of such slices would ask more of a caller than the clause does.
+fn tasks_in(tasks: &[Task], queue: u8) -> u8
+    requires { length tasks.now ≤ 64 }
+    ensures { (result ≡ tasks_in queue tasks.now) × (result ≤ 64) }
 {
-    if test { 1 } else { 0 }
-}
-
-fn larger(a: u8, b: u8) -> u8
-    ensures { result ≡ max a b }
-{
-    if a < b { b } else { a }
+    tasks.iter().filter(|task| task.queue == queue).count() as u8
 }
 
 impl Counts {
-    // The counts of the first n tasks.
-    pub fn of(tasks: [Task; 64], n: usize, board: Board) -> Self
-        requires { n ≤ 64 }
-        ensures { result ≡ counts_of (take n tasks) board }
+    // The counts of the tasks of a table.
+    pub fn of(tasks: &[Task], board: Board) -> Self
+        requires { length tasks.now ≤ 64 }
+        ensures { result ≡ counts_of tasks.now board }
     {
-        let mut q: u8 = 0;
-        let mut s: u8 = 0;
-        let mut f: u8 = 0;
-        let mut i: usize = 0;
-        while i < n {
-            let queue = tasks[i].queue;
-            q += one_if(queue == 1);
-            s += one_if(queue == 2);
-            f += one_if(queue == 3);
-            i += 1;
-        }
-        let k = one_if(0 < q) + one_if(0 < s) + one_if(0 < f);
-        let all = n as u8;
-        let r = q + s;
+        let q = tasks_in(tasks, 1);
+        let s = tasks_in(tasks, 2);
+        let f = tasks_in(tasks, 3);
+        let k = u8::from(0 < q) + u8::from(0 < s) + u8::from(0 < f);
         Self {
             board,
-            n: all,
+            n: tasks.len() as u8,
             q,
-            r,
+            r: q + s,
             k,
-            m: larger(q, s),
+            m: q.max(s),
         }
     }
 
@@ -116,19 +103,18 @@ impl Counts {
         self.choice_fp()
     }
 
+    // r is at most n in the counts of any table, so that nothing is cut off where n - r is taken.
     fn sum_fp(self) -> u64
-        requires { self.r ≤ self.n }
         ensures { (result ≡ sum_fp self) × (result ≤ 100000000) }
     {
         let block = self.board.fp_block;
         let unblock = self.board.fp_unblock;
-        let all = times(self.n - self.r, self.board.fp_block_task);
+        let all = times(self.n.saturating_sub(self.r), self.board.fp_block_task);
         block as u64 + all + self.choice_fp() + unblock as u64 + self.choice_unblocked()
     }
 
-    // A task's sum is that of its own queue.
+    // A task's sum is that of its own queue, which is its number of document 01.
     fn sum(self, task: Task) -> u64
-        requires { self.r ≤ self.n }
         ensures { (result ≡ sum_by self task) × (result ≤ 100000000) }
     {
         let queue = task.queue;
@@ -141,15 +127,14 @@ impl Counts {
 
     // The charge of a task: 3/2 of its sum, rounded up.
     pub fn charge(self, task: Task) -> u64
-        requires { self.r ≤ self.n }
         ensures { (result ≡ charge_by self task) × (result ≤ 150000000) }
     {
         (3 * self.sum(task) + 1) / 2
     }
 
     // The load of a task: its cost and its charge.
+    #[tactic(auto, unfolding(crate::specs::Charges::load_by))]
     pub fn load(self, task: Task) -> u64
-        requires { self.r ≤ self.n }
         ensures { result ≡ load_by self task }
     {
         let cost = task.cost;

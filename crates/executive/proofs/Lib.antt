@@ -1,7 +1,7 @@
 -- The laws of the state and of the calls, which the crates above cite.
 pub mod LookupLaws
-pub mod SoundLaws
 pub mod CallLaws
+pub mod SoundLaws
 pub mod RunLaws
 pub mod TableLaws
 pub mod ReadingLaws

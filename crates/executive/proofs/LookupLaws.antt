@@ -1,5 +1,6 @@
 -- Look-up by number in a sound state: 0 is never a task nor a semaphore, and a number that is there is found where it stands.
 -- Assumes nothing.
+use Rattle.std.specs.Prelude.{Option, Some, None, position}
 use Prim.Native.Nat.{ℕ, zero, suc, ◌≤◌, ◌<◌}
 use mathlib.Core.Path.{◌≡◌, refl, sym, ap}
 use mathlib.Core.Bool.{Bool, true, false}
@@ -8,10 +9,8 @@ use native.Mathlib.Omega.{arith}
 use lib.Dec.{eqb, ltb}
 use lib.ListN.{length, get_or, length-take}
 use borrow.Author.Tests.{eqb-true, eq-eqb, ltb-true, ltb-false}
-use Rattle.table.specs.declared.Found.{Found}
-use Rattle.table.specs.declared.Found.TheVariants.{At, Nothing}
 use Rattle.table.specs.Entries.{blank_task, blank_sem}
-use Rattle.table.specs.Places.{first_place, task_place, sem_place}
+use Rattle.table.specs.Places.{task_place, sem_place}
 use Rattle.table.specs.WellFormed.{task_in_range, sem_in_range}
 use Rattle.table.proofs.SumLaws.{every_at}
 use Rattle.table.proofs.PlaceLaws.{found, found_only}
@@ -22,12 +21,12 @@ use Rattle.executive.specs.Sound.{Sized, Sound}
 
 -- a test that is passed only by entries which a second test rules out finds nothing
 finds_nothing : {A : Type 0} (test : A → Bool) (d : A) (l : List A)
-    → ((i : ℕ) → i < length l → test (get_or l i d) ≡ true → ⊥) → first_place test 0 l ≡ Nothing
-finds_nothing test d l never = go (first_place test 0 l) refl
+    → ((i : ℕ) → i < length l → test (get_or l i d) ≡ true → ⊥) → position test l ≡ None
+finds_nothing test d l never = go (position test l) refl
   where
-    go : (r : Found) → first_place test 0 l ≡ r → first_place test 0 l ≡ Nothing
-    go (At i) e = let f = found test l i d e in absurd (never i f.0 f.1)
-    go Nothing e = e
+    go : (r : Option ℕ) → position test l ≡ r → position test l ≡ None
+    go (Some i) e = let f = found test l i d e in absurd (never i f.0 f.1)
+    go None e = e
 
 -- as many tasks as the state says, and semaphores alike
 pub tasks_count : (s : State) → Sized s → length (tasks_of s) ≡ s.n
@@ -38,6 +37,15 @@ pub sems_count : (s : State) → Sized s → length (sems_of s) ≡ s.m
 unfolding sems_of
 sems_count s z = let h = length-take s.m s.sems in let a = z.sems_length in let b = z.sems_fit in omega arith
 
+-- what is found is an entry that is in use
+pub task_below : (s : State) → Sized s → (number i : ℕ) → task_place (tasks_of s) number ≡ Some i → i < s.n
+unfolding task_place
+task_below s sized number i e = let l = tasks_count s sized in let f = (found (λ t. eqb t.number number) (tasks_of s) i blank_task e).0 in omega arith
+
+pub sem_below : (s : State) → Sized s → (number k : ℕ) → sem_place (sems_of s) number ≡ Some k → k < s.m
+unfolding sem_place
+sem_below s sized number k e = let l = sems_count s sized in let f = (found (λ x. eqb x.number number) (sems_of s) k blank_sem e).0 in omega arith
+
 module _ (s : State) (sound : Sound s) where
   -- in a sound state a task's number is above 0
   numbered : (i : ℕ) → i < length (tasks_of s) → 1 ≤ (get_or (tasks_of s) i blank_task).number
@@ -47,7 +55,7 @@ module _ (s : State) (sound : Sound s) where
       (task_range (get_or (tasks_of s) i blank_task) (every_at task_in_range (tasks_of s) (sound.table some).task_ranges i h blank_task)).number_least
 
   -- 01, "Numbers that come back": number 0 is an unknown task
-  pub no_task_zero : task_place (tasks_of s) 0 ≡ Nothing
+  pub no_task_zero : task_place (tasks_of s) 0 ≡ None
   unfolding task_place
   no_task_zero =
       finds_nothing (λ t. eqb t.number 0) blank_task (tasks_of s)
@@ -65,14 +73,14 @@ module _ (s : State) (sound : Sound s) where
       (within_true 1 (get_or (sems_of s) k blank_sem).number 65535 test).0
 
   -- number 0 is an unknown semaphore
-  pub no_sem_zero : sem_place (sems_of s) 0 ≡ Nothing
+  pub no_sem_zero : sem_place (sems_of s) 0 ≡ None
   unfolding sem_place
   no_sem_zero =
       finds_nothing (λ t. eqb t.number 0) blank_sem (sems_of s)
       (λ k h t. let e = eqb-true (get_or (sems_of s) k blank_sem).number 0 t in let a = sem_numbered s.n refl k h in omega arith)
 
   -- a task that is there is found where it stands
-  pub task_found : (i : ℕ) → i < s.n → task_place (tasks_of s) (get_or (tasks_of s) i blank_task).number ≡ At i
+  pub task_found : (i : ℕ) → i < s.n → task_place (tasks_of s) (get_or (tasks_of s) i blank_task).number ≡ Some i
   unfolding task_place
   task_found i h =
       let n = tasks_count s sound.sized in

@@ -10,8 +10,15 @@ use borrow.Author.Tests.{eqb-true, eqb-false, eq-eqb, ne_eqb}
 use Rattle.table.specs.Refusals.{first_of, answered}
 use Rattle.table.proofs.RefusalLaws.{answered_refused, answered_done, first_of_here, first_of_past, first_of_none}
 use Rattle.executive.specs.declared.state.State.{State}
-use Rattle.executive.specs.declared.loaded.Loaded.{Loaded}
-use Rattle.executive.specs.Reading.{refused_load, accepted_load, finished_load}
+use Rattle.std.specs.Prelude.{Result, Ok, Err}
+use Rattle.executive.specs.declared.loaded.Refused.{Refused}
+use Rattle.executive.specs.Reading.{Reading}
+use Rattle.executive.specs.Reading.{reading_by, refused_load, accepted_load, finished_load}
+
+-- what was read tells of its state, refused or not
+pub reading_state : (s : State) (answer : Result Unit Refused) → (reading_by s answer).state ≡ s
+reading_state s (Ok x) = refl
+reading_state s (Err r) = refl
 
 -- the end of the records: a table with a task is accepted, and only such a one is
 pub finished_some : (s : State) (place : ℕ) → 1 ≤ s.n → finished_load s place ≡ accepted_load s
@@ -27,11 +34,10 @@ finished_none s place h =
     ∙ answered_refused 7 (λ k. refused_load k place) (accepted_load s) (λ e. omega arith)
 
 pub accepted_end : (s : State) (place : ℕ) → (finished_load s place).number ≡ 0 → 1 ≤ s.n
-unfolding refused_load
 accepted_end s place h = go (eqb s.n 0) refl
   where
     go : (b : Bool) → eqb s.n 0 ≡ b → 1 ≤ s.n
     go true e =
-        let seven : ◌≡◌ {A = ℕ} 7 0 = sym (ap (λ (l : Loaded). l.number) (finished_none s place (eqb-true s.n 0 e))) ∙ h in
+        let seven : ◌≡◌ {A = ℕ} 7 0 = sym (ap (λ (l : Reading). l.number) (finished_none s place (eqb-true s.n 0 e))) ∙ h in
         absurd (omega arith)
     go false e = let some : s.n ≡ 0 → ⊥ = eqb-false s.n 0 e in omega arith

@@ -1,6 +1,7 @@
 -- The laws of a table and its state: each gives the other back, an entry more in the one is an entry more in the other, and the state of a
 -- well-formed table, as it is after loading, is sound.
 -- Assumes nothing.
+use Rattle.std.specs.Prelude.{Option, Some, None}
 use Prim.Native.Nat.{ℕ, zero, suc, ◌+◌, ◌-◌, ◌≤◌, ◌<◌}
 use mathlib.Core.Path.{◌≡◌, refl, sym, ap, ◌∙◌, subst}
 use mathlib.Core.Bool.{Bool, true}
@@ -12,13 +13,11 @@ use lib.Seq.{take_at, drop_at, set-append_seam, append_snoc, length-take-le}
 use Rattle.table.specs.declared.Task.{Task}
 use Rattle.table.specs.declared.Sem.{Sem}
 use Rattle.table.specs.declared.Board.{Board}
-use Rattle.table.specs.declared.Found.{Found}
-use Rattle.table.specs.declared.Found.TheVariants.{At, Nothing}
 use Rattle.table.specs.Entries.{blank_task, blank_sem, loaded_task, loaded_sem}
 use Rattle.table.proofs.OrderLaws.{well_formed_loaded}
 use Rattle.executive.specs.declared.state.State.{State}
 use Rattle.executive.specs.States.{tasks_of, sems_of, empty_state}
-use Rattle.waits.specs.Waits.{task_at, sem_at, waits_for, held_by, holder_of, waits_on, here}
+use Rattle.waits.specs.Waits.{task_at, sem_at, waits_for, holder_of, waits_on, here}
 use Rattle.executive.specs.Sound.{Sized, Sound}
 use Rattle.executive.specs.Calls.{with_task, with_sem, with_tasks, with_sems}
 use Rattle.executive.specs.Tables.{Table, WellFormedTable, add_task, add_sem, add_board, loaded_table, state_of, table_of, as_loaded}
@@ -129,17 +128,17 @@ as_loaded_lem s sound =
     (map_count loaded_sem blank_sem refl s.sems 16 s.m z.sems_length z.sems_fit) refl refl refl
 
 -- after loading no semaphore is held, and every task is idle
-loaded_holder : (l : List Sem) (k : ℕ) → map loaded_sem l ≡ l → held_by (sem_at l k).holder ≡ Nothing
-unfolding sem_at held_by
+loaded_holder : (l : List Sem) (k : ℕ) → map loaded_sem l ≡ l → (sem_at l k).holder ≡ None
+unfolding sem_at
 loaded_holder l k h =
-    ap (λ (x : Sem). held_by x.holder) (ap (λ (m : List Sem). get_or m k blank_sem) (sym h) ∙ get_or-map loaded_sem l k blank_sem)
+    ap (λ (x : Sem). x.holder) (ap (λ (m : List Sem). get_or m k blank_sem) (sym h) ∙ get_or-map loaded_sem l k blank_sem)
 
-loaded_status : (l : List Task) (i : ℕ) → map loaded_task l ≡ l → waits_for (task_at l i).status ≡ Nothing
+loaded_status : (l : List Task) (i : ℕ) → map loaded_task l ≡ l → waits_for (task_at l i).status ≡ None
 unfolding task_at waits_for
 loaded_status l i h =
     ap (λ (x : Task). waits_for x.status) (ap (λ (m : List Task). get_or m i blank_task) (sym h) ∙ get_or-map loaded_task l i blank_task)
 
-not_found : {A : Type 0} (x : Found) (i : ℕ) → x ≡ Nothing → x ≡ At i → A
+not_found : {A : Type 0} (x : Option ℕ) (i : ℕ) → x ≡ None → x ≡ Some i → A
 not_found x i h k = let z : ◌≡◌ {A = ℕ} 0 1 = cc in absurd (omega arith)
 
 pub state_sized : (t : Table) → length t.tasks ≤ 64 → length t.sems ≤ 16 → Sized (state_of t)
@@ -156,9 +155,9 @@ state_sized t n m =
 pub state_sound : (t : Table) → WellFormedTable t → loaded_table t ≡ t → Sound (state_of t)
 unfolding state_of table_of tasks_of sems_of loaded_table holder_of waits_on
 state_sound t well loaded =
-    let free : (k : ℕ) → held_by (sem_at (sems_of (state_of t)) k).holder ≡ Nothing =
-    λ k. ap (λ (l : List Sem). held_by (sem_at l k).holder) (state_sems t) ∙ loaded_holder t.sems k (ap (λ (u : Table). u.sems) loaded) in
-    let idle : (i : ℕ) → waits_for (task_at (tasks_of (state_of t)) i).status ≡ Nothing =
+    let free : (k : ℕ) → (sem_at (sems_of (state_of t)) k).holder ≡ None =
+    λ k. ap (λ (l : List Sem). (sem_at l k).holder) (state_sems t) ∙ loaded_holder t.sems k (ap (λ (u : Table). u.sems) loaded) in
+    let idle : (i : ℕ) → waits_for (task_at (tasks_of (state_of t)) i).status ≡ None =
     λ i. ap (λ (l : List Task). waits_for (task_at l i).status) (state_tasks t) ∙ loaded_status t.tasks i (ap (λ (u : Table). u.tasks) loaded) in
     record {
       sized = state_sized t well.tasks_fit well.sems_fit;
@@ -166,7 +165,7 @@ state_sound t well loaded =
       sems_blank = drop_at t.sems (replicate (16 - length t.sems) blank_sem) (length t.sems) refl;
       none = λ h. absurd (omega (arith, well.some));
       table = λ h. subst WellFormedTable (sym (state_table t)) well;
-      holders = λ k h i e. not_found (held_by (sem_at (sems_of (state_of t)) k).holder) i (free k) e;
+      holders = λ k h i e. not_found ((sem_at (sems_of (state_of t)) k).holder) i (free k) e;
       waits = λ i h k e. not_found (waits_for (task_at (tasks_of (state_of t)) i).status) k (idle i) e;
       chains = λ i h. here (ap (holder_of (sems_of (state_of t))) (idle i));
       time = omega arith;

@@ -1,9 +1,7 @@
 -- What a reader must believe of the state: the empty one, what a sound state is, the calls, the state of a table, and what reading one
--- hands back. Wakes and Asking have what two calls share on the way.
+-- hands back.
 pub mod States
 pub mod Sound
 pub mod Calls
 pub mod Tables
 pub mod Reading
-pub mod Wakes
-pub mod Asking

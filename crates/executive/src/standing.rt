@@ -1,58 +1,35 @@
 // Asking for the running task and for a standing, which changes nothing.
 ghost use Rattle.std.specs.Prelude.{◌≡◌};
-ghost use Rattle.waits.specs.Standing.{running_of, number_at};
+ghost use Rattle.std.specs.Option.{option_map};
+ghost use Rattle.waits.specs.Waits.{task_at};
+ghost use Rattle.waits.specs.Standing.{running_of};
 ghost use Rattle.executive.specs.States.{tasks_of, sems_of};
 ghost use Rattle.executive.specs.Sound.{Sound};
-ghost use Rattle.executive.specs.Calls.{stands_of};
+ghost use Rattle.executive.specs.Calls.{stands_by, stands_of};
 
 use crate::state::State;
-use table::{Found, numbers};
-use waits::standing;
-
-// What standing answers: 0 or 20, and the queue, the deadline (0 in FP) and the position.
-#[derive(Clone, Copy)]
-pub struct Stands {
-    pub number: u8,
-    pub queue: u8,
-    pub deadline: u64,
-    pub position: u8,
-}
+use table::refusals::Refusal;
+use waits::standing::Rank;
 
 impl State {
-    // The number of the ready task of best standing, or 0.
-    pub fn running(self) -> u16
-        requires { Sound self }
-        ensures { result ≡ number_at (tasks_of self) (running_of (tasks_of self) (sems_of self)) }
+    // The number of the ready task of best standing.
+    pub fn running(&self) -> Option<u16>
+        requires { Sound self.now }
+        ensures { result
+            ≡ option_map (λ i. (task_at (tasks_of self.now) i).number) (running_of (tasks_of self.now) (sems_of self.now)) }
     {
-        let runs = standing::running(self.tasks, self.n, self.sems, self.m);
-        let Found::At(i) = runs else {
-            return 0;
+        let Ok(i) = self.runs() else {
+            return None;
         };
-        self.tasks[i].number
+        Some(self.tasks[i].number)
     }
 
-    // The standing of the task with this number: queue, deadline and position, or 20 and zeros.
-    pub fn standing(self, number: u16) -> Stands
-        requires { Sound self }
-        ensures { result ≡ stands_of self number }
+    // The standing of the task with this number: queue, deadline and position, or 20.
+    pub fn standing(&self, number: u16) -> Result<Rank, Refusal>
+        requires { Sound self.now }
+        ensures { stands_by result ≡ stands_of self.now number }
     {
-        let tasks = self.tasks;
-        let found = lookup::task_place(tasks, self.n, number);
-        let Found::At(i) = found else {
-            return Stands {
-                number: numbers::UNKNOWN_TASK,
-                queue: 0,
-                deadline: 0,
-                position: 0,
-            };
-        };
-        let sems = self.sems;
-        let rank = standing::standing(tasks, self.n, sems, self.m, i);
-        Stands {
-            number: numbers::DONE,
-            queue: rank.queue,
-            deadline: rank.deadline,
-            position: rank.position,
-        }
+        let i = self.task(number)?;
+        Ok(self.entries().standing(i))
     }
 }

@@ -4,16 +4,17 @@
 use Prim.Native.Nat.{ℕ, zero, suc, ◌+◌, ◌*◌, ◌/◌, ◌%◌, ◌^◌, ◌≤◌, ◌<◌}
 use mathlib.Core.Path.{◌≡◌, refl, sym, ap, ◌∙◌, subst}
 use mathlib.Core.Bool.{Bool, true, false, ◌&&◌}
-use mathlib.Core.List.{List, [], ◌∷◌, ◌++◌, append_assoc}
-use native.Mathlib.Nat.{add_comm, add-zero, zero-add, add_assoc, mul_assoc, add-mul, mul-one, zero-mul, mod-add-div', mod-eq_of_lt, mul-suc, suc-add, div-one}
+use mathlib.Core.List.{List, [], ◌∷◌, ◌++◌}
+use native.Mathlib.Nat.{add_comm, add-zero, zero-add, add_assoc, mul_assoc, add-mul, mul-one, zero-mul, mod-add-div', mul-suc, div-one, pow-suc, div-div-eq-div-mul}
 use native.Mathlib.Numerals.{add-one}
 use native.Mathlib.Omega.{arith}
 use lib.Arith.{digits_div, digits_mod}
 use lib.Dec.{eqb}
-use borrow.Author.Tests.{eq-eqb, ne_eqb, eqb-true}
-use lib.Pow.{pow-add, field, mod-mod-pow, shr-shr, shr_lt}
-use lib.ListN.{length, get_or, take, drop, set, replicate, length-append, length-drop, take-append-drop, drop_of_length-le, get_or-append}
-use lib.Seq.{length-take-le, take-add, drop-drop, take_at, drop_at, set_split, drop-cons, get_or-take, get_or-drop}
+use borrow.Author.Tests.{ne_eqb, eqb-true}
+use lib.Pow.{pow-add, shr_lt}
+use lib.ListN.{length, get_or, take, drop, replicate, length-drop, take-append-drop, get_or-append}
+use lib.Seq.{length-take-le, take-add, drop-drop, take_all, take_at, drop_at, drop-cons, get_or-take, get_or-drop}
+use Rattle.std.specs.Int.{sum_through, byte_worth, bytes_low_first}
 use Rattle.fields.specs.Fields.{value_of, bytes_of, read_at, put_at, all_are}
 
 -- 2 ^ (8 * w) at one byte more
@@ -36,26 +37,6 @@ value_of_append (x ∷ xs) ys =
     ap (λ (n : ℕ). x + n * 256) (value_of_append xs ys)
     ∙ ap (λ (n : ℕ). x + n) (add-mul (value_of xs) (v * p) 256 ∙ ap (λ (n : ℕ). value_of xs * 256 + n) (mul_assoc v p 256 ∙ ap (λ (n : ℕ). v * n) (sym e)))
     ∙ sym (add_assoc x (value_of xs * 256) (v * 2 ^ (8 * suc (length xs))))
-
--- the bytes of a wider number: the low ones, then those of what is left
-pub bytes_of_append : (w v x : ℕ) → bytes_of (w + v) x ≡ bytes_of w x ++ bytes_of v (x / 2 ^ (8 * w))
-unfolding bytes_of
-bytes_of_append zero v x = ap (λ (n : ℕ). bytes_of n x) (zero-add v) ∙ ap (bytes_of v) (sym (div-one x))
-bytes_of_append (suc w) v x =
-    let e : x / 256 / 2 ^ (8 * w) ≡ x / 2 ^ (8 * suc w) = shr-shr x 8 (8 * w) ∙ ap (λ (k : ℕ). x / 2 ^ k) (add_comm 8 (8 * w) ∙ sym (mul-suc 8 w)) in
-    ap (λ (n : ℕ). bytes_of n x) (suc-add w v)
-    ∙ ap (λ (l : List ℕ). x % 256 ∷ l) (bytes_of_append w v (x / 256) ∙ ap (λ (n : ℕ). bytes_of w (x / 256) ++ bytes_of v n) e)
-
--- only the low part of a number has bytes of this width
-pub bytes_of_low : (w x : ℕ) → bytes_of w (x % 2 ^ (8 * w)) ≡ bytes_of w x
-unfolding bytes_of
-bytes_of_low zero x = refl
-bytes_of_low (suc w) x =
-    let first : x % 2 ^ (8 * suc w) % 256 ≡ x % 256 = ap (λ (n : ℕ). x % n % 256) (pow_more w) ∙ mod-mod-pow x (8 * w) 8 in
-    let rest : x % 2 ^ (8 * suc w) / 256 ≡ x / 256 % 2 ^ (8 * w) = ap (λ (n : ℕ). x % n / 256) (pow_more w) ∙ field x (8 * w) 8 in
-    ap (λ (n : ℕ). n ∷ bytes_of w (x % 2 ^ (8 * suc w) / 256)) first
-    ∙ ap (λ (n : ℕ). x % 256 ∷ bytes_of w n) rest
-    ∙ ap (λ (l : List ℕ). x % 256 ∷ l) (bytes_of_low w (x / 256))
 
 -- the value of the bytes of a number that fits is that number
 pub value_of_bytes_of : (w x : ℕ) → x < 2 ^ (8 * w) → value_of (bytes_of w x) ≡ x
@@ -111,38 +92,6 @@ module _ (l : List ℕ) (at : ℕ) where
   front : at ≤ length l → length (take at l) ≡ at
   front h = length-take-le at l h
 
-  -- a wider number is put as two narrower ones
-  pub put_at_wider : (w v x : ℕ) → at + (w + v) ≤ length l
-      → put_at (w + v) l at x ≡ put_at v (put_at w l at (x % 2 ^ (8 * w))) (at + w) (x / 2 ^ (8 * w))
-  unfolding put_at
-  put_at_wider w v x h =
-      let p = take at l in
-      let b = bytes_of w (x % 2 ^ (8 * w)) in
-      let hi = bytes_of v (x / 2 ^ (8 * w)) in
-      let n : length (p ++ b) ≡ at + w = length-append p b ∙ (ap (λ (k : ℕ). k + length b) (front (omega arith)) ∙ ap (λ (k : ℕ). at + k) (length_bytes_of w (x % 2 ^ (8 * w)))) in
-      let whole : p ++ (b ++ drop (at + w) l) ≡ (p ++ b) ++ drop (at + w) l = sym (append_assoc p b (drop (at + w) l)) in
-      let before : take (at + w) (p ++ (b ++ drop (at + w) l)) ≡ p ++ b = ap (take (at + w)) whole ∙ take_at (p ++ b) (drop (at + w) l) (at + w) n in
-      let after : drop (at + w + v) (p ++ (b ++ drop (at + w) l)) ≡ drop (at + (w + v)) l =
-      sym (drop-drop v (at + w) (p ++ (b ++ drop (at + w) l)))
-      ∙ (ap (λ (m : List ℕ). drop v (drop (at + w) m)) whole
-      ∙ (ap (drop v) (drop_at (p ++ b) (drop (at + w) l) (at + w) n) ∙ (drop-drop v (at + w) l ∙ ap (λ (k : ℕ). drop k l) (add_assoc at w v)))) in
-      ap (λ (m : List ℕ). p ++ (m ++ drop (at + (w + v)) l)) (bytes_of_append w v x ∙ ap (λ (m : List ℕ). m ++ hi) (sym (bytes_of_low w x)))
-      ∙ (ap (λ (m : List ℕ). p ++ m) (append_assoc b hi (drop (at + (w + v)) l))
-      ∙ (sym (append_assoc p b (hi ++ drop (at + (w + v)) l))
-      ∙ (ap (λ (m : List ℕ). m ++ (hi ++ drop (at + (w + v)) l)) (sym before) ∙ ap (λ (m : List ℕ). take (at + w) (p ++ (b ++ drop (at + w) l)) ++ (hi ++ m)) (sym after))))
-
-  -- a low half that was put, and then the high one behind it
-  pub halves_put : (w x : ℕ) (low high : List ℕ) → at + (w + w) ≤ length l → low ≡ put_at w l at (x % 2 ^ (8 * w))
-      → high ≡ put_at w low (at + w) (x / 2 ^ (8 * w)) → high ≡ put_at (w + w) l at x
-  halves_put w x low high h a b = b ∙ (ap (λ (m : List ℕ). put_at w m (at + w) (x / 2 ^ (8 * w))) a ∙ sym (put_at_wider w w x h))
-
-  -- one byte is stored
-  pub put_at_one : (x : ℕ) → at < length l → x < 256 → put_at 1 l at x ≡ set l at x
-  unfolding put_at bytes_of
-  put_at_one x h small =
-      ap (λ (n : ℕ). take at l ++ (n ∷ drop (at + 1) l)) (mod-eq_of_lt small)
-      ∙ (ap (λ (n : ℕ). take at l ++ (x ∷ drop n l)) (add-one at) ∙ sym (set_split l at x h))
-
   -- reading what was put gives the value
   pub read_put : (w x : ℕ) → at + w ≤ length l → x < 2 ^ (8 * w) → read_at w (put_at w l at x) at ≡ x
   unfolding read_at put_at
@@ -168,20 +117,43 @@ module _ (l : List ℕ) (at : ℕ) where
   unfolding put_at
   put_read w h bytes = ap (λ (m : List ℕ). take at l ++ m) (read_back l at w h bytes) ∙ take-append-drop at l
 
--- a test of every byte: the byte at i is b and the rest decides, or it is not and the test fails; at the end it holds
-pub all_more : (b : ℕ) (l : List ℕ) (i : ℕ) → i < length l → get_or l i 0 ≡ b → all_are b (drop i l) ≡ all_are b (drop (i + 1) l)
-unfolding all_are
-all_more b l i h e =
-    ap (all_are b) (drop-cons l i 0 h)
-    ∙ (ap (λ (t : Bool). t && all_are b (drop (suc i) l)) (eq-eqb (get_or l i 0) b e) ∙ ap (λ (n : ℕ). all_are b (drop n l)) (sym (add-one i)))
+-- a byte more counts 256 times as much
+worth : (k : ℕ) → 256 ^ k ≡ 2 ^ (8 * k)
+worth zero = refl
+worth (suc k) = pow-suc 256 k ∙ (ap (λ (n : ℕ). n * 256) (worth k) ∙ sym (pow_more k ∙ pow-add 2 (8 * k) 8))
 
+-- the bytes that std gives a number are those
+bytes_at : (i w n : ℕ) → bytes_low_first i w n ≡ bytes_of w (n / 256 ^ i)
+unfolding bytes_of
+bytes_at i zero n = refl
+bytes_at zero (suc w) n = ap (λ (l : List ℕ). n % 256 ∷ l) (bytes_at 1 w n) ∙ ap (λ (k : ℕ). k % 256 ∷ bytes_of w (k / 256)) (sym (div-one n))
+bytes_at (suc i) (suc w) n =
+    ap (λ (l : List ℕ). n / 256 ^ suc i % 256 ∷ l) (bytes_at (suc (suc i)) w n)
+    ∙ ap (λ (k : ℕ). n / 256 ^ suc i % 256 ∷ bytes_of w k)
+    (ap (λ (k : ℕ). n / k) (pow-suc 256 (suc i)) ∙ sym (div-div-eq-div-mul n (256 ^ suc i) 256))
+
+pub std_bytes : (w n : ℕ) → bytes_low_first 0 w n ≡ bytes_of w n
+std_bytes w n = bytes_at 0 w n ∙ ap (bytes_of w) (div-one n)
+
+-- the number that std reads from bytes is theirs
+value_at : (k : ℕ) (l : List ℕ) → k < length l → sum_through (λ i. byte_worth i (get_or l i 0)) k ≡ read_at (suc k) l 0
+value_at zero l h = sym (read_at_one l 0 h)
+value_at (suc k) l h =
+    let more =
+    ap (λ (n : ℕ). read_at (suc k) l 0 + read_at 1 l n * 2 ^ (8 * suc k)) (sym (zero-add (suc k)))
+    ∙ (sym (read_at_wider (suc k) 1 l 0 (omega arith)) ∙ ap (λ (n : ℕ). read_at n l 0) (add-one (suc k))) in
+    ap (λ (n : ℕ). n + get_or l (suc k) 0 * 256 ^ suc k) (value_at k l (omega arith))
+    ∙ (ap (λ (n : ℕ). read_at (suc k) l 0 + n) (ap (λ (n : ℕ). get_or l (suc k) 0 * n) (worth (suc k)) ∙ ap (λ (n : ℕ). n * 2 ^ (8 * suc k)) (sym (read_at_one l (suc k) h)))
+    ∙ more)
+
+pub std_value : (k : ℕ) (l : List ℕ) → length l ≡ suc k → sum_through (λ i. byte_worth i (get_or l i 0)) k ≡ value_of l
+unfolding read_at
+std_value k l h = value_at k l (omega arith) ∙ ap value_of (take_all (suc k) l (omega arith))
+
+-- a byte that is not b fails the test of what stands from it on
 pub all_stop : (b : ℕ) (l : List ℕ) (i : ℕ) → i < length l → (get_or l i 0 ≡ b → ⊥) → all_are b (drop i l) ≡ false
 unfolding all_are
 all_stop b l i h e = ap (all_are b) (drop-cons l i 0 h) ∙ ap (λ (t : Bool). t && all_are b (drop (suc i) l)) (ne_eqb (get_or l i 0) b e)
-
-pub all_end : (b : ℕ) (l : List ℕ) (i : ℕ) → length l ≤ i → all_are b (drop i l) ≡ true
-unfolding all_are
-all_end b l i h = ap (all_are b) (drop_of_length-le l h)
 
 -- a part whose every byte is b is b, so many times
 same_more : (b x : ℕ) (xs : List ℕ) (t : Bool) → eqb x b ≡ t → (t && all_are b xs) ≡ true → (all_are b xs ≡ true → xs ≡ replicate (length xs) b)

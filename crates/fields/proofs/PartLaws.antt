@@ -9,6 +9,7 @@ use native.Mathlib.Omega.{arith}
 use lib.ListN.{length, get_or, take, drop, length-append, length-drop, drop_of_length-le}
 use lib.Seq.{drop-drop, take_all, take_at, drop_at, take-suc, length-take-le, get_or-take, get_or-drop}
 use borrow.Rule.Slice.PartMut.{put_mid}
+use Rattle.std.specs.Simd.{first_chunks}
 use Rattle.fields.specs.Fields.{Bytes}
 use Rattle.fields.specs.Parts.{parts_of, flat}
 
@@ -55,14 +56,11 @@ parts_bytes width (suc count) l n bytes zero h = let front = front_bytes width c
 parts_bytes width (suc count) l n bytes (suc i) h =
     let front = front_bytes width count l n bytes in parts_bytes width count (drop width l) front.2 front.3 i (le_of_suc-le-suc h)
 
--- the record at a place, and those behind it
-pub next_part : (width count at : ℕ) (l : List ℕ)
-    → parts_of width (suc count) (drop at l) ≡ take (at + width - at) (drop at l) ∷ parts_of width count (drop (at + width) l)
+-- the records that std cuts a list into are those
+pub chunks_parts : (width count : ℕ) (l : List ℕ) → first_chunks width count l ≡ parts_of width count l
 unfolding parts_of
-next_part width count at l =
-    let same : width ≡ at + width - at = omega arith in
-    ap (λ (m : List ℕ). take width (drop at l) ∷ parts_of width count m) (drop-drop width at l)
-    ∙ ap (λ (w : ℕ). take w (drop at l) ∷ parts_of width count (drop (at + width) l)) same
+chunks_parts width zero l = refl
+chunks_parts width (suc count) l = ap (λ (rest : List (List ℕ)). take width l ∷ rest) (chunks_parts width count (drop width l))
 
 -- a part that is put behind what is done already
 pub part_put : (done r l : List ℕ) (at e : ℕ) → length done ≡ at → at ≤ e → put_mid at (e - at) (done ++ drop at l) r ≡ (done ++ r) ++ drop e l
@@ -163,9 +161,6 @@ module _ {A : Type 0} (encode : A → List ℕ) (width : ℕ) (wide : (x : A) �
           let fits : width * (i + 1) ≤ width * length l = mul-le-mul_left width one in
           subst (λ (k : ℕ). i * width + width ≤ k) (sym filled_long)
           (subst (λ (k : ℕ). k ≤ length whole) (mul_comm width (i + 1) ∙ sym next_at) (subst (λ (k : ℕ). width * (i + 1) ≤ k) (sym long) fits))
-
-      pub next_width : length (take (i * width + width - i * width) (drop (i * width) part)) ≡ width
-      next_width = part_width part (i * width) width next_inside
 
       pub filled_more : (d : A) (r : List ℕ) → r ≡ encode (get_or l i d) → Filled (put_mid (i * width) (i * width + width - i * width) part r) (i + 1)
       filled_more d r e =

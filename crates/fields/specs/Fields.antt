@@ -1,5 +1,6 @@
 -- Little-endian numbers of any width in a list of bytes (01, "The image": "little-endian").
-use Rattle.std.specs.Prelude.{ℕ, zero, suc, ◌+◌, ◌*◌, ◌/◌, ◌%◌, ◌<◌, Bool, true, ◌&&◌, List, [], ◌∷◌, ◌++◌, eqb, length, get_or, take, drop}
+use Rattle.std.specs.Prelude.{ℕ, zero, suc, ◌+◌, ◌*◌, ◌/◌, ◌%◌, ◌<◌, Bool, List, [], ◌∷◌, ◌++◌, eqb, length, get_or, take, drop}
+use Rattle.std.specs.List.{list_all}
 
 -- the number that the bytes are, the first byte counting least
 unfoldable pub value_of : List ℕ → ℕ
@@ -21,8 +22,7 @@ put_at width bytes at value = take at bytes ++ (bytes_of width value ++ drop (at
 
 -- every byte of the part is b
 unfoldable pub all_are : ℕ → List ℕ → Bool
-all_are b [] = true
-all_are b (x ∷ xs) = eqb x b && all_are b xs
+all_are b = list_all (λ x. eqb x b)
 
 -- what a lent slice of u8 holds
 abbrev pub Bytes : List ℕ → Type 0

@@ -1,82 +1,114 @@
 // Little-endian numbers in a lent slice of bytes, and parts that hold one byte throughout.
 #![tactic(auto)]
 
-ghost use Rattle.std.specs.Prelude.{◌≡◌, ◌+◌, ◌≤◌, length, replicate};
-ghost use Rattle.fields.specs.Fields.{read_at, put_at, all_are};
+ghost use Rattle.std.specs.Prelude.{◌≡◌, ℕ, ◌+◌, ◌≤◌, length, replicate};
+ghost use Rattle.fields.specs.Fields.{value_of, bytes_of, read_at, put_at, all_are};
 
-// A byte as a wider number.
-fn wide(byte: u8) -> u16
-    ensures { (result ≡ byte) × (result ≤ 255) }
-{
-    byte as u16
+// An unsigned number of some width.
+pub trait Number: Copy {
+    // How many bytes it has.
+    ghost WIDTH: { ℕ };
+
+    const WIDTH: usize;
+
+    // What it counts.
+    ghost count: { Self → ℕ };
+
+    fn from_bytes(bytes: &[u8]) -> Self
+        requires { length bytes.now ≡ WIDTH }
+        ensures { count result ≡ value_of bytes.now };
+
+    fn put_bytes(self, part: &mut [u8])
+        requires { length part.old ≡ WIDTH }
+        ensures { part.new ≡ bytes_of WIDTH (count self) };
+
+    // Two that count the same are the same.
+    ghost apart: { (x y : Self) → count x ≡ count y → x ≡ y };
 }
 
-pub fn u16_at(s: &[u8], at: usize) -> u16
-    requires { at + 2 ≤ length s.now }
-    ensures { result ≡ read_at 2 s.now at }
-{
-    wide(s[at]) + wide(s[at + 1]) * 256
+impl Number for u16 {
+    ghost WIDTH = { 2 };
+
+    ghost count = { λ x. x };
+
+    ghost apart = { λ x y e. e };
+
+    const WIDTH: usize = 2;
+
+    fn from_bytes(bytes: &[u8]) -> u16 {
+        u16::from_le_bytes(bytes.try_into().unwrap())
+    }
+
+    fn put_bytes(self, part: &mut [u8]) {
+        part.copy_from_slice(&u16::to_le_bytes(self));
+    }
 }
 
-pub fn u32_at(s: &[u8], at: usize) -> u32
-    requires { at + 4 ≤ length s.now }
-    ensures { result ≡ read_at 4 s.now at }
-{
-    (u16_at(s, at) as u32) + (u16_at(s, at + 2) as u32) * 65_536
+impl Number for u32 {
+    ghost WIDTH = { 4 };
+
+    ghost count = { λ x. x };
+
+    ghost apart = { λ x y e. e };
+
+    const WIDTH: usize = 4;
+
+    fn from_bytes(bytes: &[u8]) -> u32 {
+        u32::from_le_bytes(bytes.try_into().unwrap())
+    }
+
+    fn put_bytes(self, part: &mut [u8]) {
+        part.copy_from_slice(&u32::to_le_bytes(self));
+    }
 }
 
-pub fn u64_at(s: &[u8], at: usize) -> u64
-    requires { at + 8 ≤ length s.now }
-    ensures { result ≡ read_at 8 s.now at }
-{
-    (u32_at(s, at) as u64) + (u32_at(s, at + 4) as u64) * 4_294_967_296
+impl Number for u64 {
+    ghost WIDTH = { 8 };
+
+    ghost count = { λ x. x };
+
+    ghost apart = { λ x y e. e };
+
+    const WIDTH: usize = 8;
+
+    fn from_bytes(bytes: &[u8]) -> u64 {
+        u64::from_le_bytes(bytes.try_into().unwrap())
+    }
+
+    fn put_bytes(self, part: &mut [u8]) {
+        part.copy_from_slice(&u64::to_le_bytes(self));
+    }
 }
 
-pub fn put_u16(s: &mut [u8], at: usize, value: u16)
-    requires { at + 2 ≤ length s.old }
-    ensures { s.new ≡ put_at 2 s.old at value }
+// The number that stands at a place.
+#[tactic(auto, unfolding(crate::specs::Fields::read_at))]
+pub fn read<T: Number>(s: &[u8], at: usize) -> T
+    requires { at + T.WIDTH ≤ length s.now }
+    ensures { T.count result ≡ read_at T.WIDTH s.now at }
 {
-    s[at] = (value % 256) as u8;
-    s[at + 1] = (value / 256) as u8;
+    T::from_bytes(&s[at..at + T::WIDTH])
 }
 
-pub fn put_u32(s: &mut [u8], at: usize, value: u32)
-    requires { at + 4 ≤ length s.old }
-    ensures { s.new ≡ put_at 4 s.old at value }
+// Puts a number at a place.
+#[tactic(auto, unfolding(crate::specs::Fields::put_at))]
+pub fn put<T: Number>(s: &mut [u8], at: usize, value: T)
+    requires { at + T.WIDTH ≤ length s.old }
+    ensures { s.new ≡ put_at T.WIDTH s.old at (T.count value) }
 {
-    put_u16(s, at, (value % 65_536) as u16);
-    put_u16(s, at + 2, (value / 65_536) as u16);
-}
-
-pub fn put_u64(s: &mut [u8], at: usize, value: u64)
-    requires { at + 8 ≤ length s.old }
-    ensures { s.new ≡ put_at 8 s.old at value }
-{
-    put_u32(s, at, (value % 4_294_967_296) as u32);
-    put_u32(s, at + 4, (value / 4_294_967_296) as u32);
+    value.put_bytes(&mut s[at..at + T::WIDTH]);
 }
 
 // Whether every byte of the part is b.
+#[tactic(auto, unfolding(crate::specs::Fields::all_are))]
 pub fn all_are(part: &[u8], b: u8) -> bool
     ensures { result ≡ all_are b part.now }
 {
-    let mut i: usize = 0;
-    while i < part.len() {
-        if part[i] != b {
-            return false;
-        }
-        i += 1;
-    }
-    true
+    part.iter().all(|x| *x == b)
 }
 
 // Fills the part with b, whatever stood there.
 pub fn fill(part: &mut [u8], b: u8)
     ensures { part.new ≡ replicate (length part.old) b }
 {
-    let mut at: usize = 0;
-    while at < part.len() {
-        part[at] = b;
-        at += 1;
-    }
+    part.fill(b);
 }

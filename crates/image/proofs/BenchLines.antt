@@ -9,10 +9,9 @@ use Rattle.table.specs.declared.Task.{Task}
 use Rattle.table.specs.declared.Status.TheVariants.{Idle}
 use Rattle.table.specs.Entries.{no_figures}
 use Rattle.table.specs.Refusals.{first_of, answered}
-use Rattle.table.specs.Sums.{any}
 use Rattle.table.specs.WellFormed.{within, due_in_range, task_in_range, board_in_range, used}
 use Rattle.fields.specs.Fields.{value_of, bytes_of, read_at, all_are}
-use Rattle.records.specs.Records.{task_in, board_in, unless_out_of_range, task_decoded, board_decoded, decoded, encode_task, encode_board}
+use Rattle.records.specs.Records.{task_in, board_in, task_decoded, board_decoded, decoded, encode_task, encode_board}
 use Rattle.executive.specs.Tables.{add_task, add_board, state_of}
 use Rattle.fields.specs.Parts.{parts_of}
 use Rattle.executive.specs.Reading.{refused_load, finished_load}
@@ -40,5 +39,5 @@ unfolding load_of load_records bad_length parts_of load_from fresh_table erased_
 all_erased_64 = refl
 
 pub erased_then_board : load_of (encode_task good_task ++ (erased_run 32 ++ encode_board no_figures)) ≡ refused_load 3 2
-unfolding load_of load_records bad_length parts_of load_from fresh_table erased_after taken add_task add_board finished_load state_of first_of answered decoded all_are refusal_of used_after refused_as follows order_broken number_twice too_many encode_task encode_board bytes_of task_decoded board_decoded unless_out_of_range task_in board_in read_at value_of due_in_range task_in_range board_in_range within used any
+unfolding load_of load_records bad_length parts_of load_from fresh_table erased_after taken add_task add_board finished_load state_of first_of answered decoded all_are refusal_of used_after refused_as follows order_broken number_twice too_many encode_task encode_board bytes_of task_decoded board_decoded task_in board_in read_at value_of due_in_range task_in_range board_in_range within used
 erased_then_board = refl

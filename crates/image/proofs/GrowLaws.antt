@@ -19,8 +19,10 @@ use Rattle.table.proofs.SumLaws.{both, both_left, both_right, neither, every_app
 use Rattle.table.proofs.OrderLaws.{built_in_range}
 use Rattle.executive.specs.Tables.{Table, WellFormedTable, add_task, add_sem, add_board, loaded_table}
 use Rattle.executive.proofs.TableLaws.{same_table}
-use Rattle.records.specs.declared.Decoded.{Decoded}
-use Rattle.records.specs.declared.Decoded.TheVariants.{TaskRecord, BoardRecord, SemRecord}
+use Rattle.table.specs.declared.refusals.Refusal.{Refusal}
+use Rattle.records.specs.declared.Record.{Record}
+use Rattle.std.specs.Prelude.{Result, Ok}
+use Rattle.records.specs.declared.Record.TheVariants.{Task as TaskRecord, Board as BoardRecord, Sem as SemRecord}
 use Rattle.records.proofs.RecordLaws.{Said, erased, task, board, sem, unknown, bad}
 use Rattle.image.specs.Loading.{fresh_table, taken, follows, order_broken, number_twice, too_many}
 use Rattle.image.proofs.LoadLaws.{Passed}
@@ -62,7 +64,6 @@ pub record Next {A : Type 0} (in_range : A → Bool) (before : A → A → Bool)
 
 module _ {A : Type 0} (in_range : A → Bool) (before : A → A → Bool) (loaded : A → A) (most : ℕ) (l : List A) (x : A) where
   listed_more : Listed in_range before loaded most l → Next in_range before loaded most l x → Listed in_range before loaded most (l ++ x ∷ [])
-  unfolding every
   listed_more h k =
       let n = length-append l (x ∷ []) in
       let room = k.room in
@@ -75,7 +76,6 @@ module _ {A : Type 0} (in_range : A → Bool) (before : A → A → Bool) (loade
 
   -- each entry of such a list has it
   pub listed_at : (xs : List A) → Listed in_range before loaded most (l ++ x ∷ xs) → Next in_range before loaded most l x
-  unfolding every
   listed_at xs h =
       let n = length-append l (x ∷ xs) in
       let few = h.few in
@@ -88,7 +88,7 @@ module _ {A : Type 0} (in_range : A → Bool) (before : A → A → Bool) (loade
 
 -- numbers that are used once, with one more that is new, and back
 once_more : (l : List Task) (x : Task) → used_once l ≡ true → used x.number l ≡ false → used_once (l ++ x ∷ []) ≡ true
-unfolding used_once used any
+unfolding used_once used
 once_more [] x h k = refl
 once_more (y ∷ l) x h k =
     let test : Task → Bool = λ t. eqb t.number y.number in
@@ -100,7 +100,7 @@ once_more (y ∷ l) x h k =
     (once_more l x (both_right (not (any test l)) (used_once l) h) other.1)
 
 pub used_before_lem : (l : List Task) (x : Task) (xs : List Task) → used_once (l ++ x ∷ xs) ≡ true → used x.number l ≡ false
-unfolding used_once used any
+unfolding used_once used
 used_before_lem [] x xs h = refl
 used_before_lem (y ∷ l) x xs h =
     let test : Task → Bool = λ t. eqb t.number y.number in
@@ -126,7 +126,7 @@ pub record Growing (t : Table) : Type 0 where
   pub absent : t.present ≡ false → t.board ≡ built_in
 
 pub growing_start : Growing fresh_table
-unfolding fresh_table every ordered used_once
+unfolding fresh_table ordered used_once
 growing_start =
     record {
       tasks = record { few = omega arith; ranges = refl; order = refl; same = refl };
@@ -141,7 +141,7 @@ none_there n h = let none = ltb-false 0 n h in omega arith
 
 -- what a task that is not refused has passed: no semaphore was there yet, it stands after the last task, and its number is new
 module _ {erased : Bool} (t : Table) where
-  pub task_passed : (x : Task) → Passed erased t (TaskRecord x)
+  pub task_passed : (x : Task) → Passed erased t (Ok (TaskRecord x))
       → (length t.sems ≡ 0) × (follows task_before t.tasks x ≡ true) × (used x.number t.tasks ≡ false) × (length t.tasks < 64)
   unfolding order_broken number_twice too_many
   task_passed x p =
@@ -152,12 +152,12 @@ module _ {erased : Bool} (t : Table) where
         leb-false 64 (length t.tasks) p.room,
       )
 
-  pub sem_passed : (x : Sem) → Passed erased t (SemRecord x) → (follows sem_before t.sems x ≡ true) × (length t.sems < 16)
+  pub sem_passed : (x : Sem) → Passed erased t (Ok (SemRecord x)) → (follows sem_before t.sems x ≡ true) × (length t.sems < 16)
   unfolding order_broken too_many
   sem_passed x p = (not-false (follows sem_before t.sems x) p.in_order, leb-false 16 (length t.sems) p.room)
 
   -- a board record that is not refused is the first record
-  pub board_passed : (b : Board) → Passed erased t (BoardRecord b) → (t.present ≡ false) × (length t.tasks ≡ 0) × (length t.sems ≡ 0)
+  pub board_passed : (b : Board) → Passed erased t (Ok (BoardRecord b)) → (t.present ≡ false) × (length t.tasks ≡ 0) × (length t.sems ≡ 0)
   unfolding order_broken
   board_passed b p =
       let two = neither (t.present || ltb 0 (length t.tasks)) (ltb 0 (length t.sems)) p.in_order in
@@ -165,7 +165,7 @@ module _ {erased : Bool} (t : Table) where
       (one.0, none_there (length t.tasks) one.1, none_there (length t.sems) two.1)
 
 -- a record that is not refused keeps the table well formed so far
-pub grow : (t : Table) {erased : Bool} {r : List ℕ} {d : Decoded} → Growing t → Said r d → Passed erased t d → Growing (taken t d)
+pub grow : (t : Table) {erased : Bool} {r : List ℕ} {d : Result Record Refusal} → Growing t → Said r d → Passed erased t d → Growing (taken t d)
 unfolding taken add_task add_sem add_board
 grow t g (erased h) p = g
 grow t g (task {t = x} same range idle) p =

@@ -22,33 +22,36 @@ use Rattle.fields.specs.Fields.{all_are, Bytes}
 use Rattle.fields.specs.Parts.{parts_of, flat}
 use Rattle.fields.proofs.ByteLaws.{all_replicate}
 use Rattle.fields.proofs.PartLaws.{nothing, front_bytes, flat_more, parts_flat}
-use Rattle.records.specs.declared.Decoded.{Decoded}
-use Rattle.records.specs.declared.Decoded.TheVariants.{Erased, TaskRecord, BoardRecord, SemRecord, Refused}
+use Rattle.table.specs.declared.refusals.Refusal.{Refusal}
+use Rattle.table.specs.declared.refusals.Refusal.TheVariants.{UnknownKind, OutOfRange}
+use Rattle.records.specs.declared.Record.{Record}
+use Rattle.std.specs.Prelude.{Result, Ok, Err}
+use Rattle.records.specs.declared.Record.TheVariants.{Erased, Task as TaskRecord, Board as BoardRecord, Sem as SemRecord}
 use Rattle.records.specs.Records.{decoded, encode_task, encode_board, encode_sem}
 use Rattle.records.proofs.RecordLaws.{Said, erased, task, board, sem, unknown, bad, said, decoded_task, decoded_board, decoded_sem, decoded_erased, length_task, length_board, length_sem}
-use Rattle.executive.specs.declared.loaded.Loaded.{Loaded}
-use Rattle.executive.specs.Reading.{refused_load, accepted_load}
+use Rattle.executive.specs.Reading.{Reading}
+use Rattle.executive.specs.Reading.{accepted_load}
 use Rattle.image.specs.Loading.{fresh_table, taken, erased_after, refusal_of, used_after, refused_as, order_broken, number_twice, too_many, load_from, records_in}
 use Rattle.image.specs.Writing.{encoded}
 use Rattle.image.proofs.LoadLaws.{load_go, load_stop, Passed, passed, passes}
 use Rattle.image.proofs.GrowLaws.{Listed, Next, listed_at, used_before_lem, Growing, grow, task_passed, board_passed}
 
 -- one record more, of which is known what it says and that it passes
-load_on : (t : Table) (e : Bool) (place : ℕ) (r : List ℕ) (d : Decoded) (rest : List (List ℕ)) → decoded r ≡ d → Passed e t d
+load_on : (t : Table) (e : Bool) (place : ℕ) (r : List ℕ) (d : Result Record Refusal) (rest : List (List ℕ)) → decoded r ≡ d → Passed e t d
     → load_from t e place (r ∷ rest) ≡ load_from (taken t d) (erased_after e d) (suc place) rest
 load_on t e place r d rest so p =
     load_go t e place r rest (ap (refusal_of e t) so ∙ passes e t d p)
-    ∙ ap (λ (x : Decoded). load_from (taken t x) (erased_after e x) (suc place) rest) so
+    ∙ ap (λ (x : Result Record Refusal). load_from (taken t x) (erased_after e x) (suc place) rest) so
 
 -- a load that has come to a table of which something is so, with the records that are left
-pub record Reached (Here : Table → Type 0) (rest : List (List ℕ)) (answer : Loaded) : Type 0 where
+pub record Reached (Here : Table → Type 0) (rest : List (List ℕ)) (answer : Reading) : Type 0 where
   pub table : Table
   pub so : Here table
   pub place : ℕ
   pub goes : answer ≡ load_from table false place rest
 
 -- entries of one kind, replayed in their order: `Left t xs` is what is so of the table so far where the entries xs are still to come
-module _ {A : Type 0} (encode : A → List ℕ) (say : A → Decoded) (Left : Table → List A → Type 0)
+module _ {A : Type 0} (encode : A → List ℕ) (say : A → Result Record Refusal) (Left : Table → List A → Type 0)
     (clear : (x : A) → erased_after false (say x) ≡ false)
     (says : (t : Table) (x : A) (xs : List A) → Left t (x ∷ xs) → decoded (encode x) ≡ say x)
     (pass : (t : Table) (x : A) (xs : List A) → Left t (x ∷ xs) → Passed false t (say x))
@@ -85,7 +88,7 @@ module _ (goal : Table) (well : Growing goal) where
   next_sem : (t : Table) (x : Sem) (xs : List Sem) → Left t [] (x ∷ xs) → Next sem_in_range sem_before loaded_sem 16 t.sems x
   next_sem t x xs h = listed_at sem_in_range sem_before loaded_sem 16 t.sems x xs (subst (Listed sem_in_range sem_before loaded_sem 16) h.sems well.sems)
 
-  task_next : (t : Table) (x : Task) (xs : List Task) → Left t (x ∷ xs) goal.sems → Passed false t (TaskRecord x)
+  task_next : (t : Table) (x : Task) (xs : List Task) → Left t (x ∷ xs) goal.sems → Passed false t (Ok (TaskRecord x))
   unfolding used_after refused_as order_broken number_twice too_many
   task_next t x xs h =
       let n = next_task t x xs h in
@@ -99,7 +102,7 @@ module _ (goal : Table) (well : Growing goal) where
         room = lt-leb 64 (length t.tasks) n.room;
       }
 
-  sem_next : (t : Table) (x : Sem) (xs : List Sem) → Left t [] (x ∷ xs) → Passed false t (SemRecord x)
+  sem_next : (t : Table) (x : Sem) (xs : List Sem) → Left t [] (x ∷ xs) → Passed false t (Ok (SemRecord x))
   unfolding used_after refused_as order_broken number_twice too_many
   sem_next t x xs h =
       let n = next_sem t x xs h in
@@ -112,11 +115,11 @@ module _ (goal : Table) (well : Growing goal) where
         room = lt-leb 16 (length t.sems) n.room;
       }
 
-  task_on : (t : Table) (x : Task) (xs : List Task) → Left t (x ∷ xs) goal.sems → Left (taken t (TaskRecord x)) xs goal.sems
+  task_on : (t : Table) (x : Task) (xs : List Task) → Left t (x ∷ xs) goal.sems → Left (taken t (Ok (TaskRecord x))) xs goal.sems
   unfolding taken add_task
   task_on t x xs h = record { tasks = h.tasks ∙ sym (append_snoc t.tasks x xs); sems = h.sems; board = h.board; present = h.present }
 
-  sem_on : (t : Table) (x : Sem) (xs : List Sem) → Left t [] (x ∷ xs) → Left (taken t (SemRecord x)) [] xs
+  sem_on : (t : Table) (x : Sem) (xs : List Sem) → Left t [] (x ∷ xs) → Left (taken t (Ok (SemRecord x))) [] xs
   unfolding taken add_sem
   sem_on t x xs h = record { tasks = h.tasks; sems = h.sems ∙ sym (append_snoc t.sems x xs); board = h.board; present = h.present }
 
@@ -126,12 +129,12 @@ module _ (goal : Table) (well : Growing goal) where
   unfolding erased_after
   both_in t place h rest =
       let first =
-      replay encode_task TaskRecord (λ u xs. Left u xs goal.sems) (λ x. refl)
-      (λ u x xs k. let n = next_task u x xs k in decoded_task x n.range ∙ ap TaskRecord n.idle) task_next task_on
+      replay encode_task (λ x. Ok (TaskRecord x)) (λ u xs. Left u xs goal.sems) (λ x. refl)
+      (λ u x xs k. let n = next_task u x xs k in decoded_task x n.range ∙ ap (λ (y : Task). Ok (TaskRecord y)) n.idle) task_next task_on
       goal.tasks t place h (map encode_sem goal.sems ++ rest) in
       let second =
-      replay encode_sem SemRecord (λ u xs. Left u [] xs) (λ x. refl)
-      (λ u x xs k. let n = next_sem u x xs k in decoded_sem x n.range ∙ ap SemRecord n.idle) sem_next sem_on
+      replay encode_sem (λ x. Ok (SemRecord x)) (λ u xs. Left u [] xs) (λ x. refl)
+      (λ u x xs k. let n = next_sem u x xs k in decoded_sem x n.range ∙ ap (λ (y : Sem). Ok (SemRecord y)) n.idle) sem_next sem_on
       goal.sems first.table first.place first.so rest in
       let end = second.so in
       record {
@@ -154,9 +157,9 @@ module _ (goal : Table) (well : Growing goal) where
       let b = goal.board in
       let others = map encode_task goal.tasks ++ (map encode_sem goal.sems ++ rest) in
       let first =
-      load_on fresh_table false 0 (encode_board b) (BoardRecord b) others (decoded_board b well.figures)
+      load_on fresh_table false 0 (encode_board b) (Ok (BoardRecord b)) others (decoded_board b well.figures)
       (record { not_after = refl; known = refl; in_range = refl; in_order = refl; new = refl; room = refl }) in
-      let second = both_in (taken fresh_table (BoardRecord b)) 1 (record { tasks = refl; sems = refl; board = refl; present = sym e }) rest in
+      let second = both_in (taken fresh_table (Ok (BoardRecord b))) 1 (record { tasks = refl; sems = refl; board = refl; present = sym e }) rest in
       record { table = second.table; so = second.so; place = second.place; goes = first ∙ second.goes }
 
 -- so many bytes 255
@@ -170,7 +173,7 @@ erased_bytes_lem e = ap (λ (k : ℕ). erased_bytes k) (mul-suc 32 e ∙ add_com
 erased_step : (t : Table) (e : Bool) (place : ℕ) (rest : List (List ℕ)) → load_from t e place (erased_bytes 32 ∷ rest) ≡ load_from t true (suc place) rest
 unfolding taken erased_after used_after refused_as order_broken number_twice too_many
 erased_step t e place rest =
-    load_on t e place (erased_bytes 32) Erased rest decoded_erased
+    load_on t e place (erased_bytes 32) (Ok Erased) rest decoded_erased
     (record { not_after = refl; known = refl; in_range = refl; in_order = refl; new = refl; room = refl })
 
 -- erased records at the end change nothing
@@ -225,29 +228,28 @@ replayed goal well some e count n =
 -- a load that is accepted refused no record
 accepted_record : (t : Table) (e : Bool) (place : ℕ) (r : List ℕ) (rest : List (List ℕ)) → (load_from t e place (r ∷ rest)).number ≡ 0
     → refusal_of e t (decoded r) ≡ 0
-unfolding refused_load
 accepted_record t e place r rest h = go (eqb (refusal_of e t (decoded r)) 0) refl
   where
     go : (b : Bool) → eqb (refusal_of e t (decoded r)) 0 ≡ b → refusal_of e t (decoded r) ≡ 0
     go true z = eqb-true (refusal_of e t (decoded r)) 0 z
-    go false z = sym (ap (λ (l : Loaded). l.number) (load_stop t e place r rest (eqb-false (refusal_of e t (decoded r)) 0 z))) ∙ h
+    go false z = sym (ap (λ (l : Reading). l.number) (load_stop t e place r rest (eqb-false (refusal_of e t (decoded r)) 0 z))) ∙ h
 
 -- behind an erased record there are erased records only
-record Rest (t : Table) (k : ℕ) (l : List ℕ) (answer : Loaded) : Type 0 where
+record Rest (t : Table) (k : ℕ) (l : List ℕ) (answer : Reading) : Type 0 where
   some : 1 ≤ length t.tasks
   bytes : l ≡ erased_bytes (32 * k)
   same : answer ≡ accepted_load (state_of t)
 
 -- a used record after an erased one is not accepted
-not_used : {A : Type 0} (t : Table) (d : Decoded) → used_after true d ≡ true → Passed true t d → A
+not_used : {A : Type 0} (t : Table) (d : Result Record Refusal) → used_after true d ≡ true → Passed true t d → A
 not_used t d so p = let z : ◌≡◌ {A = ℕ} 0 1 = let h : false ≡ true = sym p.not_after ∙ so in cc in absurd (omega arith)
 
 -- the first record, and the answer from there and from behind it
 module _ (k : ℕ) (l : List ℕ) (t : Table) (place : ℕ) where
-  abbrev answer_from : Bool → Loaded
+  abbrev answer_from : Bool → Reading
   answer_from e = load_from t e place (take 32 l ∷ records_in k (drop 32 l))
 
-  abbrev answer_behind : Table → Bool → Loaded
+  abbrev answer_behind : Table → Bool → Reading
   answer_behind u e = load_from u e (suc place) (records_in k (drop 32 l))
 
   -- one erased record before others
@@ -256,23 +258,23 @@ module _ (k : ℕ) (l : List ℕ) (t : Table) (place : ℕ) where
   rest_more e n all others h =
       let first : take 32 l ≡ erased_bytes 32 = all_replicate 255 (take 32 l) all ∙ ap erased_bytes (length-take-le 32 l (omega arith)) in
       let goes = ap (λ (r : List ℕ). load_from t e place (r ∷ records_in k (drop 32 l))) first ∙ erased_step t e place (records_in k (drop 32 l)) in
-      let rest = others (sym (ap (λ (a : Loaded). a.number) goes) ∙ h) in
+      let rest = others (sym (ap (λ (a : Reading). a.number) goes) ∙ h) in
       record {
         some = rest.some;
         bytes = sym (take-append-drop 32 l) ∙ (ap (λ (m : List ℕ). m ++ drop 32 l) first ∙ (ap (λ (m : List ℕ). erased_bytes 32 ++ m) rest.bytes ∙ sym (erased_bytes_lem k)));
         same = goes ∙ rest.same;
       }
 
-  rest_case : length l ≡ 32 * suc k → (d : Decoded) → Said (take 32 l) d → Passed true t d
+  rest_case : length l ≡ 32 * suc k → (d : Result Record Refusal) → Said (take 32 l) d → Passed true t d
       → ((answer_behind t true).number ≡ 0 → Rest t k (drop 32 l) (answer_behind t true)) → (answer_from true).number ≡ 0
       → Rest t (suc k) l (answer_from true)
   unfolding used_after
   rest_case n d (erased all) p others h = rest_more true n all others h
-  rest_case n (TaskRecord x) (task a b c) p others h = not_used t (TaskRecord x) refl p
-  rest_case n (BoardRecord x) (board a b) p others h = not_used t (BoardRecord x) refl p
-  rest_case n (SemRecord x) (sem a b c) p others h = not_used t (SemRecord x) refl p
-  rest_case n d unknown p others h = not_used t (Refused 2) refl p
-  rest_case n d bad p others h = not_used t (Refused 4) refl p
+  rest_case n (Ok (TaskRecord x)) (task a b c) p others h = not_used t (Ok (TaskRecord x)) refl p
+  rest_case n (Ok (BoardRecord x)) (board a b) p others h = not_used t (Ok (BoardRecord x)) refl p
+  rest_case n (Ok (SemRecord x)) (sem a b c) p others h = not_used t (Ok (SemRecord x)) refl p
+  rest_case n d unknown p others h = not_used t (Err UnknownKind) refl p
+  rest_case n d bad p others h = not_used t (Err OutOfRange) refl p
 
 rest_of : (k : ℕ) (l : List ℕ) (t : Table) (place : ℕ) → length l ≡ 32 * k → Bytes l
     → (load_from t true place (records_in k l)).number ≡ 0 → Rest t k l (load_from t true place (records_in k l))
@@ -287,7 +289,7 @@ rest_of (suc k) l t place n bytes h =
     (rest_of k (drop 32 l) t (suc place) parts.2 parts.3) h
 
 -- one entry more is one record more
-encoded_task : (t : Table) (x : Task) → t.sems ≡ [] → encoded (taken t (TaskRecord x)) ≡ encoded t ++ encode_task x
+encoded_task : (t : Table) (x : Task) → t.sems ≡ [] → encoded (taken t (Ok (TaskRecord x))) ≡ encoded t ++ encode_task x
 unfolding encoded taken add_task add_board flat
 encoded_task t x none =
     let b = cond t.present (encode_board t.board) [] in
@@ -298,7 +300,7 @@ encoded_task t x none =
     ∙ (sym (append_assoc b ts e)
     ∙ (ap (λ (m : List ℕ). (b ++ m) ++ e) (sym (append-nil ts)) ∙ ap (λ (l : List Sem). (b ++ (ts ++ flat encode_sem l)) ++ e) (sym none))))
 
-encoded_sem : (t : Table) (x : Sem) → encoded (taken t (SemRecord x)) ≡ encoded t ++ encode_sem x
+encoded_sem : (t : Table) (x : Sem) → encoded (taken t (Ok (SemRecord x))) ≡ encoded t ++ encode_sem x
 unfolding encoded taken add_sem
 encoded_sem t x =
     let b = cond t.present (encode_board t.board) [] in
@@ -308,7 +310,7 @@ encoded_sem t x =
     ap (λ (m : List ℕ). b ++ (ts ++ m)) (flat_more encode_sem t.sems x)
     ∙ (ap (λ (m : List ℕ). b ++ m) (sym (append_assoc ts ss e)) ∙ sym (append_assoc b (ts ++ ss) e))
 
-encoded_board : (t : Table) (b : Board) → t.present ≡ false → t.tasks ≡ [] → t.sems ≡ [] → encoded (taken t (BoardRecord b)) ≡ encoded t ++ encode_board b
+encoded_board : (t : Table) (b : Board) → t.present ≡ false → t.tasks ≡ [] → t.sems ≡ [] → encoded (taken t (Ok (BoardRecord b))) ≡ encoded t ++ encode_board b
 unfolding encoded taken add_task add_board flat
 encoded_board t b absent no_task no_sem =
     ap (λ (l : List Task). encode_board b ++ (flat encode_task l ++ flat encode_sem t.sems)) no_task
@@ -319,7 +321,7 @@ encoded_board t b absent no_task no_sem =
     ∙ ap (λ (flag : Bool). (cond flag (encode_board t.board) [] ++ (flat encode_task t.tasks ++ flat encode_sem t.sems)) ++ encode_board b) (sym absent)))))
 
 -- an accepted load: the table that was read, and what its bytes were
-pub record Ended (t : Table) (l : List ℕ) (answer : Loaded) : Type 0 where
+pub record Ended (t : Table) (l : List ℕ) (answer : Reading) : Type 0 where
   pub table : Table
   pub growing : Growing table
   pub some : 1 ≤ length table.tasks
@@ -333,15 +335,15 @@ not_refused b h k = let z : ◌≡◌ {A = ℕ} 0 1 = cc in absurd (omega arith)
 
 module _ (k : ℕ) (l : List ℕ) (t : Table) (place : ℕ) where
   -- a used record before others
-  ended_more : (d : Decoded) → decoded (take 32 l) ≡ d → erased_after false d ≡ false → encoded (taken t d) ≡ encoded t ++ take 32 l
+  ended_more : (d : Result Record Refusal) → decoded (take 32 l) ≡ d → erased_after false d ≡ false → encoded (taken t d) ≡ encoded t ++ take 32 l
       → (answer_from k l t place false).number ≡ 0
       → ((answer_behind k l t place (taken t d) false).number ≡ 0 → Ended (taken t d) (drop 32 l) (answer_behind k l t place (taken t d) false))
       → Ended t l (answer_from k l t place false)
   ended_more d e clear grown h others =
       let goes : answer_from k l t place false ≡ answer_behind k l t place (taken t d) false =
       load_go t false place (take 32 l) (records_in k (drop 32 l)) (accepted_record t false place (take 32 l) (records_in k (drop 32 l)) h)
-      ∙ (ap (λ (x : Decoded). answer_behind k l t place (taken t x) (erased_after false x)) e ∙ ap (answer_behind k l t place (taken t d)) clear) in
-      let end = others (sym (ap (λ (a : Loaded). a.number) goes) ∙ h) in
+      ∙ (ap (λ (x : Result Record Refusal). answer_behind k l t place (taken t x) (erased_after false x)) e ∙ ap (answer_behind k l t place (taken t d)) clear) in
+      let end = others (sym (ap (λ (a : Reading). a.number) goes) ∙ h) in
       record {
         table = end.table;
         growing = end.growing;
@@ -353,7 +355,7 @@ module _ (k : ℕ) (l : List ℕ) (t : Table) (place : ℕ) where
             ∙ (sym (append_assoc (encoded t) (take 32 l) (drop 32 l)) ∙ (ap (λ (m : List ℕ). m ++ drop 32 l) (sym grown) ∙ end.bytes));
       }
 
-  ended_case : Growing t → length l ≡ 32 * suc k → Bytes l → (d : Decoded) → decoded (take 32 l) ≡ d → Said (take 32 l) d → Passed false t d
+  ended_case : Growing t → length l ≡ 32 * suc k → Bytes l → (d : Result Record Refusal) → decoded (take 32 l) ≡ d → Said (take 32 l) d → Passed false t d
       → (answer_from k l t place false).number ≡ 0
       → ((u : Table) → Growing u → (answer_behind k l t place u false).number ≡ 0 → Ended u (drop 32 l) (answer_behind k l t place u false))
       → Ended t l (answer_from k l t place false)
@@ -362,20 +364,20 @@ module _ (k : ℕ) (l : List ℕ) (t : Table) (place : ℕ) where
       let parts = front_bytes 32 k l n bytes in
       let rest = rest_more k l t place false n all (rest_of k (drop 32 l) t (suc place) parts.2 parts.3) h in
       record { table = t; growing = g; some = rest.some; same = rest.same; gone = suc k; bytes = ap (λ (m : List ℕ). encoded t ++ m) rest.bytes }
-  ended_case g n bytes (TaskRecord x) e (task same range loaded) p h others =
+  ended_case g n bytes (Ok (TaskRecord x)) e (task same range loaded) p h others =
       let none = nothing t.sems (task_passed t x p).0 in
-      ended_more (TaskRecord x) e refl (encoded_task t x none ∙ ap (λ (m : List ℕ). encoded t ++ m) same) h
-      (others (taken t (TaskRecord x)) (grow t {r = take 32 l} {d = TaskRecord x} g (task same range loaded) p))
-  ended_case g n bytes (BoardRecord x) e (board same range) p h others =
+      ended_more (Ok (TaskRecord x)) e refl (encoded_task t x none ∙ ap (λ (m : List ℕ). encoded t ++ m) same) h
+      (others (taken t (Ok (TaskRecord x))) (grow t {r = take 32 l} {d = Ok (TaskRecord x)} g (task same range loaded) p))
+  ended_case g n bytes (Ok (BoardRecord x)) e (board same range) p h others =
       let first = board_passed t x p in
-      ended_more (BoardRecord x) e refl
+      ended_more (Ok (BoardRecord x)) e refl
       (encoded_board t x first.0 (nothing t.tasks first.1) (nothing t.sems first.2) ∙ ap (λ (m : List ℕ). encoded t ++ m) same) h
-      (others (taken t (BoardRecord x)) (grow t {r = take 32 l} {d = BoardRecord x} g (board same range) p))
-  ended_case g n bytes (SemRecord x) e (sem same range loaded) p h others =
-      ended_more (SemRecord x) e refl (encoded_sem t x ∙ ap (λ (m : List ℕ). encoded t ++ m) same) h
-      (others (taken t (SemRecord x)) (grow t {r = take 32 l} {d = SemRecord x} g (sem same range loaded) p))
-  ended_case g n bytes d e unknown p h others = not_refused (refused_as 2 (Refused 2)) refl p.known
-  ended_case g n bytes d e bad p h others = not_refused (refused_as 4 (Refused 4)) refl p.in_range
+      (others (taken t (Ok (BoardRecord x))) (grow t {r = take 32 l} {d = Ok (BoardRecord x)} g (board same range) p))
+  ended_case g n bytes (Ok (SemRecord x)) e (sem same range loaded) p h others =
+      ended_more (Ok (SemRecord x)) e refl (encoded_sem t x ∙ ap (λ (m : List ℕ). encoded t ++ m) same) h
+      (others (taken t (Ok (SemRecord x))) (grow t {r = take 32 l} {d = Ok (SemRecord x)} g (sem same range loaded) p))
+  ended_case g n bytes d e unknown p h others = not_refused (refused_as 2 (Err UnknownKind)) refl p.known
+  ended_case g n bytes d e bad p h others = not_refused (refused_as 4 (Err OutOfRange)) refl p.in_range
 
 pub ended_of : (k : ℕ) (l : List ℕ) (t : Table) (place : ℕ) → Growing t → length l ≡ 32 * k → Bytes l
     → (load_from t false place (records_in k l)).number ≡ 0 → Ended t l (load_from t false place (records_in k l))

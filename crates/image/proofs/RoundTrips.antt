@@ -10,12 +10,12 @@
 use Prim.Native.Nat.{ℕ, suc, ◌+◌, ◌-◌, ◌*◌, ◌/◌, ◌%◌, ◌≤◌}
 use mathlib.Core.Path.{◌≡◌, refl, sym, ap, ◌∙◌, subst}
 use mathlib.Core.Logic.{◌≢◌, ◌⊎◌, inl, inr}
-use mathlib.Core.Bool.{Bool, true, false, cond, not}
+use mathlib.Core.Bool.{Bool, true, false, cond}
 use mathlib.Core.List.{List, [], ◌∷◌, ◌++◌, map, append_assoc}
 use native.Mathlib.Omega.{arith}
 use lib.Dec.{eqb, ltb}
 use lib.ListN.{length, replicate, length-append, length-replicate, replicate-append-replicate}
-use borrow.Author.Tests.{eqb-true, eqb-false, ltb-false, not-false}
+use borrow.Author.Tests.{eqb-true, eqb-false, ltb-false}
 use Rattle.table.specs.Entries.{loaded_task, loaded_sem}
 use Rattle.table.proofs.RefusalLaws.{first_of_zero}
 use Rattle.table.proofs.SumLaws.{neither}
@@ -24,35 +24,28 @@ use Rattle.executive.specs.States.{empty_state}
 use Rattle.executive.specs.Sound.{Sound}
 use Rattle.executive.specs.Tables.{Table, WellFormedTable, loaded_table, state_of, table_of, as_loaded}
 use Rattle.executive.proofs.TableLaws.{state_table, loaded_well, loaded_again, as_loaded_lem, state_sound, empty_sound}
-use Rattle.executive.proofs.ReadingLaws.{finished_none, finished_some}
+use Rattle.executive.proofs.ReadingLaws.{finished_none, finished_some, reading_state}
 use Rattle.fields.specs.Fields.{Bytes}
 use Rattle.fields.specs.Parts.{flat}
 use Rattle.fields.proofs.PartLaws.{length_parts, flat_map}
 use Rattle.records.specs.Records.{decoded, encode_task, encode_board, encode_sem}
+use Rattle.executive.specs.Reading.{Reading, reading_of}
 use Rattle.executive.specs.declared.loaded.Loaded.{Loaded}
-use Rattle.executive.specs.Reading.{refused_load, accepted_load, finished_load}
+use Rattle.executive.specs.Reading.{accepted_load, finished_load}
 use Rattle.image.specs.Loading.{fresh_table, taken, erased_after, refusal_of, load_from, records_in, bad_length, load_records, load_of}
 use Rattle.image.specs.Writing.{encoded, bad_buffer, write_number, written}
 use Rattle.image.specs.Accepted.{Accepted}
-use Rattle.image.proofs.LoadLaws.{load_bad, load_good, load_stop, load_go, length_right}
+use Rattle.image.proofs.LoadLaws.{load_bad, load_good, load_stop, load_go, length_good, length_right}
 use Rattle.image.proofs.WriteLaws.{length_table, write_good, buffer_right}
 use Rattle.image.proofs.GrowLaws.{growing_start, growing_well, growing_loaded, well_growing}
 use Rattle.image.proofs.ReplayLaws.{erased_bytes, replayed, Ended, ended_of}
 
--- a length that is not bad
-length_good : (bytes : ℕ) → bad_length bytes ≡ false → (bytes % 32 ≡ 0) × (bytes ≤ 4096)
-unfolding bad_length
-length_good bytes h =
-    let parts = neither (not (eqb (bytes % 32) 0)) (ltb 4096 bytes) h in
-    (eqb-true (bytes % 32) 0 (not-false (eqb (bytes % 32) 0) parts.0), ltb-false 4096 bytes parts.1)
-
 -- the length of an accepted image is not bad
 accepted_length : (image : List ℕ) → (load_of image).number ≡ 0 → bad_length (length image) ≡ false
-unfolding refused_load
 accepted_length image h = go (bad_length (length image)) refl
   where
     go : (b : Bool) → bad_length (length image) ≡ b → bad_length (length image) ≡ false
-    go true e = let one : ◌≡◌ {A = ℕ} 1 0 = sym (ap (λ (l : Loaded). l.number) (load_bad image e)) ∙ h in absurd (omega arith)
+    go true e = let one : ◌≡◌ {A = ℕ} 1 0 = sym (ap (λ (l : Reading). l.number) (load_bad image e)) ∙ h in absurd (omega arith)
     go false e = e
 
 -- what an accepted image was
@@ -62,10 +55,10 @@ ended image bytes h =
     let good = accepted_length image h in
     let long = length_good (length image) good in
     let same = load_good image good in
-    subst (λ (l : Loaded). Ended fresh_table image l) (sym same)
-    (ended_of (length image / 32) image fresh_table 0 growing_start (omega arith) bytes (sym (ap (λ (l : Loaded). l.number) same) ∙ h))
+    subst (λ (l : Reading). Ended fresh_table image l) (sym same)
+    (ended_of (length image / 32) image fresh_table 0 growing_start (omega arith) bytes (sym (ap (λ (l : Reading). l.number) same) ∙ h))
 
-ended_bytes : (image : List ℕ) {answer : Loaded} (e : Ended fresh_table image answer) → image ≡ encoded e.table ++ erased_bytes (32 * e.gone)
+ended_bytes : (image : List ℕ) {answer : Reading} (e : Ended fresh_table image answer) → image ≡ encoded e.table ++ erased_bytes (32 * e.gone)
 unfolding fresh_table encoded flat
 ended_bytes image e = e.bytes
 
@@ -117,47 +110,47 @@ table_well s sound some = sound.table some
 
 -- a load hands back the empty state, or its answer is 0
 records_empty : (rs : List (List ℕ)) (t : Table) (e : Bool) (place : ℕ) → ((load_from t e place rs).number ≡ 0) ⊎ ((load_from t e place rs).state ≡ empty_state)
-unfolding load_from refused_load accepted_load
+unfolding load_from
 records_empty [] t e place = go (eqb (state_of t).n 0) refl
   where
     go : (b : Bool) → eqb (state_of t).n 0 ≡ b → ((finished_load (state_of t) place).number ≡ 0) ⊎ ((finished_load (state_of t) place).state ≡ empty_state)
-    go true z = inr (ap (λ (l : Loaded). l.state) (finished_none (state_of t) place (eqb-true (state_of t).n 0 z)))
+    go true z = inr (ap (λ (l : Reading). l.state) (finished_none (state_of t) place (eqb-true (state_of t).n 0 z)))
     go false z =
         let some : (state_of t).n ≡ 0 → ⊥ = eqb-false (state_of t).n 0 z in
-        inl (ap (λ (l : Loaded). l.number) (finished_some (state_of t) place (omega arith)))
+        inl (ap (λ (l : Reading). l.number) (finished_some (state_of t) place (omega arith)))
 records_empty (r ∷ rs) t e place = go (eqb number 0) refl (records_empty rs (taken t (decoded r)) (erased_after e (decoded r)) (suc place))
   where
     number : ℕ
     number = refusal_of e t (decoded r)
 
-    behind : Loaded
+    behind : Reading
     behind = load_from (taken t (decoded r)) (erased_after e (decoded r)) (suc place) rs
 
     go : (b : Bool) → eqb number 0 ≡ b → (behind.number ≡ 0) ⊎ (behind.state ≡ empty_state)
         → ((load_from t e place (r ∷ rs)).number ≡ 0) ⊎ ((load_from t e place (r ∷ rs)).state ≡ empty_state)
-    go true z rest = subst (λ (l : Loaded). (l.number ≡ 0) ⊎ (l.state ≡ empty_state)) (sym (load_go t e place r rs (eqb-true number 0 z))) rest
-    go false z rest = inr (ap (λ (l : Loaded). l.state) (load_stop t e place r rs (eqb-false number 0 z)))
+    go true z rest = subst (λ (l : Reading). (l.number ≡ 0) ⊎ (l.state ≡ empty_state)) (sym (load_go t e place r rs (eqb-true number 0 z))) rest
+    go false z rest = inr (ap (λ (l : Reading). l.state) (load_stop t e place r rs (eqb-false number 0 z)))
 
 image_empty : (image : List ℕ) → ((load_of image).number ≡ 0) ⊎ ((load_of image).state ≡ empty_state)
-unfolding refused_load load_records
+unfolding load_records
 image_empty image = go (bad_length (length image)) refl
   where
     go : (b : Bool) → bad_length (length image) ≡ b → ((load_of image).number ≡ 0) ⊎ ((load_of image).state ≡ empty_state)
-    go true e = inr (ap (λ (l : Loaded). l.state) (load_bad image e))
+    go true e = inr (ap (λ (l : Reading). l.state) (load_bad image e))
     go false e =
-        subst (λ (l : Loaded). (l.number ≡ 0) ⊎ (l.state ≡ empty_state)) (sym (load_good image e))
+        subst (λ (l : Reading). (l.number ≡ 0) ⊎ (l.state ≡ empty_state)) (sym (load_good image e))
         (records_empty (records_in (length image / 32) image) fresh_table false 0)
 
 -- a place is at most the count of the records, of which an image has 128 at most
 records_place : (rs : List (List ℕ)) (t : Table) (e : Bool) (at : ℕ) → (load_from t e at rs).place ≤ at + length rs
-unfolding load_from refused_load accepted_load
+unfolding load_from
 records_place [] t e at = go (eqb (state_of t).n 0) refl
   where
     go : (b : Bool) → eqb (state_of t).n 0 ≡ b → (finished_load (state_of t) at).place ≤ at + 0
-    go true z = let none = ap (λ (l : Loaded). l.place) (finished_none (state_of t) at (eqb-true (state_of t).n 0 z)) in omega arith
+    go true z = let none = ap (λ (l : Reading). l.place) (finished_none (state_of t) at (eqb-true (state_of t).n 0 z)) in omega arith
     go false z =
         let some : (state_of t).n ≡ 0 → ⊥ = eqb-false (state_of t).n 0 z in
-        let zero = ap (λ (l : Loaded). l.place) (finished_some (state_of t) at (omega arith)) in
+        let zero = ap (λ (l : Reading). l.place) (finished_some (state_of t) at (omega arith)) in
         omega arith
 records_place (r ∷ rs) t e at = go (eqb number 0) refl (records_place rs (taken t (decoded r)) (erased_after e (decoded r)) (suc at))
   where
@@ -166,17 +159,17 @@ records_place (r ∷ rs) t e at = go (eqb number 0) refl (records_place rs (take
 
     go : (b : Bool) → eqb number 0 ≡ b → (load_from (taken t (decoded r)) (erased_after e (decoded r)) (suc at) rs).place ≤ suc at + length rs
         → (load_from t e at (r ∷ rs)).place ≤ at + suc (length rs)
-    go true z rest = let same = ap (λ (l : Loaded). l.place) (load_go t e at r rs (eqb-true number 0 z)) in omega arith
-    go false z rest = let same = ap (λ (l : Loaded). l.place) (load_stop t e at r rs (eqb-false number 0 z)) in omega arith
+    go true z rest = let same = ap (λ (l : Reading). l.place) (load_go t e at r rs (eqb-true number 0 z)) in omega arith
+    go false z rest = let same = ap (λ (l : Reading). l.place) (load_stop t e at r rs (eqb-false number 0 z)) in omega arith
 
 pub load_place : (image : List ℕ) → (load_of image).place ≤ 128
-unfolding refused_load load_records
+unfolding load_records
 load_place image = go (bad_length (length image)) refl
   where
     go : (b : Bool) → bad_length (length image) ≡ b → (load_of image).place ≤ 128
-    go true e = let same = ap (λ (l : Loaded). l.place) (load_bad image e) in omega arith
+    go true e = let same = ap (λ (l : Reading). l.place) (load_bad image e) in omega arith
     go false e =
-        let same = ap (λ (l : Loaded). l.place) (load_good image e) in
+        let same = ap (λ (l : Reading). l.place) (load_good image e) in
         let count = length_parts 32 (length image / 32) image in
         let within = records_place (records_in (length image / 32) image) fresh_table false 0 in
         let short = (length_good (length image) e).1 in
@@ -184,10 +177,9 @@ load_place image = go (bad_length (length image)) refl
 
 -- what is accepted, said without the loader, loads with 0
 pub accepted_loads : (image : List ℕ) → Accepted image → (load_of image).number ≡ 0
-unfolding accepted_load
 accepted_loads image a =
     let fits : length (encoded a.table ++ erased_bytes (32 * a.erased)) ≤ 4096 = subst (λ (l : List ℕ). length l ≤ 4096) a.bytes a.fits in
-    ap (λ (l : List ℕ). (load_of l).number) a.bytes ∙ ap (λ (l : Loaded). l.number) (encoded_loads a.table a.well_formed a.erased fits)
+    ap (λ (l : List ℕ). (load_of l).number) a.bytes ∙ ap (λ (l : Reading). l.number) (encoded_loads a.table a.well_formed a.erased fits)
 
 -- and what loads with 0 is accepted
 pub loads_accepted : (image : List ℕ) → Bytes image → (load_of image).number ≡ 0 → Accepted image
@@ -206,11 +198,10 @@ pub rewritten : (image : List ℕ) → Bytes image → (load_of image).number �
     → length image ≤ length buffer
     → (write_number (load_of image).state (length buffer) ≡ 0)
     × (written (load_of image).state buffer ≡ image ++ replicate (length buffer - length image) 255)
-unfolding accepted_load
 rewritten image bytes h buffer whole-records short fits =
     let e = ended image bytes h in
     let s = state_of e.table in
-    let state : (load_of image).state ≡ s = ap (λ (l : Loaded). l.state) e.same in
+    let state : (load_of image).state ≡ s = ap (λ (l : Reading). l.state) e.same in
     let done = encoded e.table in
     let same : encoded (table_of s) ≡ done = ap encoded (state_table e.table) in
     let long : length image ≡ length done + 32 * e.gone =
@@ -259,15 +250,15 @@ refused_empty image h = go (image_empty image)
 
 -- the state that loading hands back is sound
 pub loaded_sound : (image : List ℕ) → Bytes image → Sound (load_of image).state
-unfolding accepted_load
 loaded_sound image bytes = go (image_empty image)
   where
     go : ((load_of image).number ≡ 0) ⊎ ((load_of image).state ≡ empty_state) → Sound (load_of image).state
     go (inl h) =
         let e = ended image bytes h in
-        subst Sound (sym (ap (λ (l : Loaded). l.state) e.same)) (state_sound e.table (growing_well e.table e.growing e.some) (growing_loaded e.table e.growing))
+        subst Sound (sym (ap (λ (l : Reading). l.state) e.same)) (state_sound e.table (growing_well e.table e.growing e.some) (growing_loaded e.table e.growing))
     go (inr h) = subst Sound (sym h) empty_sound
 
 -- the same of what a load answered
-pub sound_of : (image : List ℕ) (l : Loaded) → l ≡ load_of image → Bytes image → Sound l.state
-sound_of image l e bytes = subst (λ (x : Loaded). Sound x.state) (sym e) (loaded_sound image bytes)
+pub sound_of : (image : List ℕ) (l : Loaded) → reading_of l ≡ load_of image → Bytes image → Sound l.state
+sound_of image l e bytes =
+    subst Sound (sym (ap (λ (r : Reading). r.state) e) ∙ reading_state l.state l.answer) (loaded_sound image bytes)

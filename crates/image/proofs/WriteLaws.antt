@@ -24,7 +24,9 @@ use Rattle.executive.specs.Tables.{Table, table_of}
 use Rattle.records.specs.Records.{encode_task, encode_board, encode_sem}
 use Rattle.records.proofs.RecordLaws.{length_task, length_board, length_sem}
 use Rattle.image.specs.Loading.{bad_length}
-use Rattle.image.specs.Writing.{encoded, bad_buffer, write_number, written}
+use Rattle.std.specs.Prelude.{Option}
+use Rattle.std.specs.Bool.{then_some}
+use Rattle.image.specs.Writing.{board_bytes, encoded, bad_buffer, write_number, written}
 
 -- the records behind the board's: the tasks, then the semaphores, as one list
 pub data Entry : Type 0 where
@@ -88,6 +90,18 @@ module _ (s : State) (z : Sized s) where
 pub length_board_part : (present : Bool) (b : Board) → length (cond present (encode_board b) []) ≡ cond present 32 0
 length_board_part true b = length_board b
 length_board_part false b = refl
+
+-- the board as the code has it: one, or none
+module _ (s : State) (board : Option Board) (so : board ≡ then_some s.present s.board) where
+  pub board_part : (bytes : List ℕ) → bytes ≡ board_bytes board → bytes ≡ cond s.present (encode_board s.board) []
+  board_part bytes e = e ∙ (ap board_bytes so ∙ go s.present)
+    where
+      go : (present : Bool) → board_bytes (then_some present s.board) ≡ cond present (encode_board s.board) []
+      go true = refl
+      go false = refl
+
+  pub board_width : (n : ℕ) → n ≡ length (board_bytes board) → n ≡ cond s.present 32 0
+  board_width n e = e ∙ (ap length (board_part (board_bytes board) refl) ∙ length_board_part s.present s.board)
 
 -- how long the records of a table are, and those of a state
 pub length_table : (t : Table) → length (encoded t) ≡ cond t.present 32 0 + 32 * length t.tasks + 32 * length t.sems

@@ -1,6 +1,7 @@
 -- Writing: the records, then 255 in every byte that remains (01, "The image").
-use Rattle.std.specs.Prelude.{ℕ, ◌-◌, Bool, cond, ◌||◌, List, [], ◌∷◌, ◌++◌, eqb, ltb, length, replicate}
+use Rattle.std.specs.Prelude.{ℕ, ◌-◌, Bool, cond, ◌||◌, List, [], ◌∷◌, ◌++◌, eqb, ltb, length, replicate, Option, None, Some}
 use Rattle.fields.specs.Parts.{flat}
+use Rattle.table.specs.declared.Board.{Board}
 use Rattle.table.specs.Refusals.{first_of, answered}
 use Rattle.executive.specs.declared.state.State.{State}
 use Rattle.executive.specs.Tables.{Table, table_of}
@@ -10,6 +11,11 @@ use Rattle.image.specs.Loading.{bad_length}
 -- 01, "The image", order: the board record, if one was there; then the tasks; then the semaphores
 unfoldable pub encoded : Table → List ℕ
 encoded t = cond t.present (encode_board t.board) [] ++ (flat encode_task t.tasks ++ flat encode_sem t.sems)
+
+-- the board record, or nothing
+abbrev pub board_bytes : Option Board → List ℕ
+board_bytes None = []
+board_bytes (Some b) = encode_board b
 
 -- 9: buffer length not a multiple of 32, above 4,096, or too short
 unfoldable pub bad_buffer : State → ℕ → Bool

@@ -1,82 +1,78 @@
 // Writing: the records, then 255 in every byte that remains.
-ghost use Rattle.std.specs.Prelude.{◌≡◌, cond, [], ◌++◌, ◌+◌, ◌*◌, length};
+ghost use Rattle.std.specs.Prelude.{◌≡◌, ◌++◌, ◌+◌, ◌*◌, length};
 ghost use Rattle.fields.specs.Parts.{flat};
+ghost use Rattle.table.specs.Refusals.{told};
 ghost use Rattle.executive.specs.States.{tasks_of, sems_of};
 ghost use Rattle.executive.specs.Sound.{Sized};
-ghost use Rattle.records.specs.Records.{encode_task, encode_board, encode_sem};
-ghost use Rattle.image.specs.Writing.{write_number, written};
+ghost use Rattle.records.specs.Records.{encode_task, encode_sem};
+ghost use Rattle.image.specs.Writing.{board_bytes, write_number, written};
 
+use crate::load::bad_length;
 use executive::state::State;
-use table::{Board, limits, numbers};
+use records::Kind;
+use table::refusals::Refusal;
+use table::{Board, limits};
 
-pub fn write(state: State, buf: &mut [u8]) -> u8
+pub fn write(state: State, buf: &mut [u8]) -> Result<(), Refusal>
     requires { Sized state }
-    ensures value { result ≡ write_number state (length buf.old) }
+    ensures value { told result ≡ write_number state (length buf.old) }
     ensures buf_after { buf.new ≡ written state buf.old }
 {
-    let n = state.n;
-    let m = state.m;
-    if n == 0 {
-        return numbers::NO_TASK;
+    if state.n == 0 {
+        return Err(Refusal::NoTask);
     }
     let length = buf.len();
-    if length % limits::RECORD != 0 {
-        return numbers::BUFFER_LENGTH;
+    if bad_length(length) {
+        return Err(Refusal::BufferLength);
     }
-    if length > limits::IMAGE {
-        return numbers::BUFFER_LENGTH;
-    }
-    let start = board_length(state.present);
-    let end = start + (n + m) * limits::RECORD;
+    let board = state.present.then_some(state.board);
+    let start = board_length(board);
+    let end = start + (state.n + state.m) * limits::RECORD;
     if length < end {
-        return numbers::BUFFER_LENGTH;
+        return Err(Refusal::BufferLength);
     }
-    let board = state.board;
-    put_board(state.present, board, &mut buf[0..start]);
+    put_board(board, &mut buf[0..start]);
     put_entries(state, &mut buf[start..end]);
-    fields::fill(&mut buf[end..length], records::ERASED);
-    numbers::DONE
+    fields::fill(&mut buf[end..length], Kind::Erased as u8);
+    Ok(())
 }
 
-fn board_length(present: bool) -> usize
-    ensures { result ≡ cond present 32 0 }
+#[tactic(auto, using(records::proofs::RecordLaws::length_board))]
+fn board_length(board: Option<Board>) -> usize
+    ensures { result ≡ length (board_bytes board) }
 {
-    if present {
-        return limits::RECORD;
+    match board {
+        Some(_) => limits::RECORD,
+        None => 0,
     }
-    0
 }
 
 // The board record, if one was there.
-fn put_board(present: bool, board: Board, part: &mut [u8])
-    requires { length part.old ≡ cond present 32 0 }
-    ensures { part.new ≡ cond present (encode_board board) [] }
+#[tactic(auto, using(records::proofs::RecordLaws::length_board))]
+fn put_board(board: Option<Board>, part: &mut [u8])
+    requires { length part.old ≡ length (board_bytes board) }
+    ensures { part.new ≡ board_bytes board }
 {
-    if present {
-        records::put_board(board, part);
+    if let Some(board) = board {
+        records::put_board(board, part.as_mut_array().unwrap());
     }
 }
 
-// The tasks, then the semaphores, one record each.
+// The tasks, then the semaphores, one record each. The loop goes by places and not by `as_chunks_mut`: of what was
+// written through its chunks a proof knows no byte, nor of what was through an array made of `&mut part[start..end]`.
 fn put_entries(state: State, part: &mut [u8])
     requires { Sized state × (length part.old ≡ 32 * (state.n + state.m)) }
     ensures { part.new ≡ flat encode_task (tasks_of state) ++ flat encode_sem (sems_of state) }
 {
     let n = state.n;
     let count = n + state.m;
-    let mut next: usize = 0;
-    while next < count {
-        let i = next;
-        let at = i * limits::RECORD;
-        let end = at + limits::RECORD;
-        next = i + 1;
+    for i in 0..count {
+        let (_, behind) = part.split_at_mut(i * limits::RECORD);
+        let record = behind.first_chunk_mut().unwrap();
         if i < n {
-            let task = state.tasks[i];
-            records::put_task(task, &mut part[at..end]);
+            records::put_task(state.tasks[i], record);
         } else {
-            let k = i - n;
-            let sem = state.sems[k];
-            records::put_sem(sem, &mut part[at..end]);
+            records::put_sem(state.sems[i - n], record);
         }
     }
 }

@@ -9,24 +9,23 @@ use native.Mathlib.Omega.{arith}
 use lib.Dec.{eqb, leb, ltb}
 use lib.ListN.{length}
 use borrow.Author.Tests.{ltb-true, ltb-false, leb-true, leb-false}
-use Rattle.table.specs.declared.Found.{Found}
-use Rattle.table.specs.declared.Found.TheVariants.{At, Nothing}
+use Rattle.std.specs.Prelude.{Option, Some, None, is_some}
+use Rattle.table.specs.declared.Task.{Task}
 use Rattle.table.specs.Refusals.{first_of}
-use Rattle.judging.specs.declared.Outcome.{Outcome}
-use Rattle.judging.specs.declared.Columns.{Columns}
-use Rattle.judging.specs.Columns.{at, columns, with_spans}
+use Rattle.judging.specs.declared.Row.{Row}
+use Rattle.judging.specs.declared.Verdict.{Verdict}
+use Rattle.judging.specs.Rows.{row_at}
 use Rattle.judging.specs.Periods.{gcd_in, gcd_of, lcm_of, shared_period, too_long, over_full}
 use Rattle.judging.specs.Demands.{demand_dp2, demand_fp, time_up_to, decided}
 use Rattle.judging.specs.Verdicts.{
   first_below,
-  found,
   first_long,
   late,
   first_late,
   number_of,
   place_of,
-  outcome_at,
-  outcome_of,
+  name_of,
+  verdict_by,
 }
 use Rattle.judging.proofs.DemandLaws.{decided_some, decided_none, demand_dp2_mono, demand_fp_mono, le_or_lt}
 use Rattle.judging.proofs.FirstLaws.{first_same, first_start, first_hit, first_next}
@@ -42,29 +41,27 @@ unfolding forced
 forced_is zero k = refl
 forced_is (suc n) k = refl
 
-unfoldable pub forced_list : {A : Type 0} → List ℕ → (List ℕ → A) → A
-forced_list [] k = k []
-forced_list (x ∷ xs) k = forced x (λ y. forced_list xs (λ ys. k (y ∷ ys)))
+unfoldable pub forced_row : {A : Type 0} → Row → (Row → A) → A
+forced_row r k =
+    forced r.period (λ p. forced r.load (λ l. forced r.span (λ s. forced r.queue (λ q. k (record { period = p; load = l; span = s; queue = q })))))
 
-forced_list_lem : {A : Type 0} (l : List ℕ) (k : List ℕ → A) → forced_list l k ≡ k l
-unfolding forced_list
-forced_list_lem [] k = refl
-forced_list_lem (x ∷ xs) k = forced_is x (λ y. forced_list xs (λ ys. k (y ∷ ys))) ∙ forced_list_lem xs (λ ys. k (x ∷ ys))
+forced_row_lem : {A : Type 0} (r : Row) (k : Row → A) → forced_row r k ≡ k r
+unfolding forced_row
+forced_row_lem {A} r k =
+    let queue : ℕ → ℕ → ℕ → ℕ → A = λ p l s q. k (record { period = p; load = l; span = s; queue = q }) in
+    forced_is r.period (λ p. forced r.load (λ l. forced r.span (λ s. forced r.queue (queue p l s))))
+    ∙ forced_is r.load (λ l. forced r.span (λ s. forced r.queue (queue r.period l s)))
+    ∙ forced_is r.span (λ s. forced r.queue (queue r.period r.load s))
+    ∙ forced_is r.queue (queue r.period r.load r.span)
 
-unfoldable pub forced_columns : {A : Type 0} → Columns → (Columns → A) → A
-forced_columns c k =
-    forced_list c.queues (λ q.
-    forced_list c.periods (λ p. forced_list c.loads (λ l. forced_list c.spans (λ s. k (with_spans (columns q p l) s)))))
+unfoldable pub forced_rows : {A : Type 0} → List Row → (List Row → A) → A
+forced_rows [] k = k []
+forced_rows (x ∷ xs) k = forced_row x (λ y. forced_rows xs (λ ys. k (y ∷ ys)))
 
-pub forced_columns_lem : {A : Type 0} (c : Columns) (k : Columns → A) → forced_columns c k ≡ k c
-unfolding forced_columns
-forced_columns_lem {A} c k =
-    let spans : List ℕ → List ℕ → List ℕ → A = λ q p l. forced_list c.spans (λ s. k (with_spans (columns q p l) s)) in
-    let loads : List ℕ → List ℕ → A = λ q p. forced_list c.loads (λ l. spans q p l) in
-    forced_list_lem c.queues (λ q. forced_list c.periods (λ p. loads q p))
-    ∙ forced_list_lem c.periods (λ p. loads c.queues p)
-    ∙ forced_list_lem c.loads (λ l. spans c.queues c.periods l)
-    ∙ forced_list_lem c.spans (λ s. k (with_spans c s))
+pub forced_rows_lem : {A : Type 0} (l : List Row) (k : List Row → A) → forced_rows l k ≡ k l
+unfolding forced_rows
+forced_rows_lem [] k = refl
+forced_rows_lem (x ∷ xs) k = forced_row_lem x (λ y. forced_rows xs (λ ys. k (y ∷ ys))) ∙ forced_rows_lem xs (λ ys. k (x ∷ ys))
 
 -- from t on, with so many steps left
 unfoldable pub fixed_from : ℕ → (ℕ → ℕ) → ℕ → ℕ → Bool
@@ -111,19 +108,19 @@ module _ (demand : ℕ → ℕ) (limit : ℕ) (rises : (s t : ℕ) → s ≤ t �
   fixed_up_to_lem = fixed_from_lem (suc limit) 1 (omega arith) (omega arith) (λ s l m. absurd (omega arith))
 
 -- the tests of 13 and 14 decided so
-unfoldable pub fixed_late : ℕ → Columns → ℕ → Bool
+unfoldable pub fixed_late : ℕ → List Row → ℕ → Bool
 fixed_late queue c i =
-    let own = at c.periods i in
-    eqb (at c.queues i) queue && not (cond (eqb queue 2) (fixed_up_to (demand_dp2 c own) own) (fixed_up_to (demand_fp c i) (at c.spans i)))
+    let own = (row_at c i).period in
+    eqb (row_at c i).queue queue && not (cond (eqb queue 2) (fixed_up_to (demand_dp2 c own) own) (fixed_up_to (demand_fp c i) (row_at c i).span))
 
-late_same : (queue : ℕ) (c : Columns) (i : ℕ) → i < length c.queues → ((j : ℕ) → j < length c.queues → 0 < at c.periods j)
+late_same : (queue : ℕ) (c : List Row) (i : ℕ) → i < length c → ((j : ℕ) → j < length c → 0 < (row_at c j).period)
     → fixed_late queue c i ≡ late queue c i
 unfolding fixed_late late
 late_same queue c i h pos =
-    let own = at c.periods i in
+    let own = (row_at c i).period in
     rw (
       fixed_up_to_lem (demand_dp2 c own) own (λ s t l. demand_dp2_mono c own s t pos l),
-      fixed_up_to_lem (demand_fp c i) (at c.spans i) (λ s t l. demand_fp_mono c i s t (λ j k. pos j (omega arith)) l),
+      fixed_up_to_lem (demand_fp c i) (row_at c i).span (λ s t l. demand_fp_mono c i s t (λ j k. pos j (omega arith)) l),
     )
 
 -- the least common multiple, each remainder computed once
@@ -145,55 +142,55 @@ unfolding lcm_forced lcm_of gcd_of
 lcm_forced_lem a b = ap (λ (g : ℕ). a * (b / g)) (gcd_forced_lem (suc b) a b)
 
 -- the shared period, each step computed once
-unfoldable pub shared_forced : Columns → ℕ → ℕ
+unfoldable pub shared_forced : List Row → ℕ → ℕ
 shared_forced c zero = 1
-shared_forced c (suc i) = forced (shared_forced c i) (λ h. cond (leb (at c.queues i) 2) (lcm_forced h (at c.periods i)) h)
+shared_forced c (suc i) = forced (shared_forced c i) (λ h. cond (leb (row_at c i).queue 2) (lcm_forced h (row_at c i).period) h)
 
-pub shared_forced_lem : (c : Columns) (i : ℕ) → shared_forced c i ≡ shared_period c i
+pub shared_forced_lem : (c : List Row) (i : ℕ) → shared_forced c i ≡ shared_period c i
 unfolding shared_forced shared_period
 shared_forced_lem c zero = refl
 shared_forced_lem c (suc i) =
-    forced_is (shared_forced c i) (λ h. cond (leb (at c.queues i) 2) (lcm_forced h (at c.periods i)) h)
-    ∙ rw (shared_forced_lem c i, lcm_forced_lem (shared_period c i) (at c.periods i))
+    forced_is (shared_forced c i) (λ h. cond (leb (row_at c i).queue 2) (lcm_forced h (row_at c i).period) h)
+    ∙ rw (shared_forced_lem c i, lcm_forced_lem (shared_period c i) (row_at c i).period)
 
 -- the first task at which the shared period is too long, with the shared period so far
-unfoldable pub long_from : Columns → ℕ → ℕ → ℕ → Found
-long_from c zero i h = Nothing
+unfoldable pub long_from : List Row → ℕ → ℕ → ℕ → Option ℕ
+long_from c zero i h = None
 long_from c (suc k) i h =
-    forced (cond (leb (at c.queues i) 2) (lcm_forced h (at c.periods i)) h)
-    (λ g. cond (ltb 1000000000000 g) (At i) (long_from c k (suc i) g))
+    forced (cond (leb (row_at c i).queue 2) (lcm_forced h (row_at c i).period) h)
+    (λ g. cond (ltb 1000000000000 g) (Some i) (long_from c k (suc i) g))
 
-module _ (c : Columns) where
-  long_from_lem : (n k i h : ℕ) → n ≡ i + k → h ≡ shared_period c i → first_below i (too_long c) ≡ Nothing
+module _ (c : List Row) where
+  long_from_lem : (n k i h : ℕ) → n ≡ i + k → h ≡ shared_period c i → first_below i (too_long c) ≡ None
       → long_from c k i h ≡ first_below n (too_long c)
   unfolding long_from
   long_from_lem n zero i h e s f = sym f ∙ ap (λ (m : ℕ). first_below m (too_long c)) (omega arith)
   long_from_lem n (suc k) i h e s f =
-      forced_is (cond (leb (at c.queues i) 2) (lcm_forced h (at c.periods i)) h) (λ g. cond (ltb 1000000000000 g) (At i) (long_from c k (suc i) g))
-      ∙ go (cond (leb (at c.queues i) 2) (lcm_forced h (at c.periods i)) h) (ltb 1000000000000 (cond (leb (at c.queues i) 2) (lcm_forced h (at c.periods i)) h))
-      (ap (λ (l : ℕ). cond (leb (at c.queues i) 2) l h) (lcm_forced_lem h (at c.periods i)) ∙ shared_suc c i h s) refl (long_from_lem n k (suc i))
+      forced_is (cond (leb (row_at c i).queue 2) (lcm_forced h (row_at c i).period) h) (λ g. cond (ltb 1000000000000 g) (Some i) (long_from c k (suc i) g))
+      ∙ go (cond (leb (row_at c i).queue 2) (lcm_forced h (row_at c i).period) h) (ltb 1000000000000 (cond (leb (row_at c i).queue 2) (lcm_forced h (row_at c i).period) h))
+      (ap (λ (l : ℕ). cond (leb (row_at c i).queue 2) l h) (lcm_forced_lem h (row_at c i).period) ∙ shared_suc c i h s) refl (long_from_lem n k (suc i))
     where
       go : (g : ℕ) (t : Bool) → g ≡ shared_period c (suc i) → ltb 1000000000000 g ≡ t
-          → ((g : ℕ) → n ≡ suc i + k → g ≡ shared_period c (suc i) → first_below (suc i) (too_long c) ≡ Nothing
+          → ((g : ℕ) → n ≡ suc i + k → g ≡ shared_period c (suc i) → first_below (suc i) (too_long c) ≡ None
           → long_from c k (suc i) g ≡ first_below n (too_long c))
-          → cond t (At i) (long_from c k (suc i) g) ≡ first_below n (too_long c)
+          → cond t (Some i) (long_from c k (suc i) g) ≡ first_below n (too_long c)
       go g true es et rest = sym (first_hit (too_long c) n i (omega arith) (long_test c i g true es et) f)
       go g false es et rest = rest g (omega arith) es (first_next (too_long c) i (long_test c i g false es et) f)
 
--- the outcome
-unfoldable pub fixed_outcome : Columns → Outcome
-fixed_outcome c =
-    let n = length c.queues in
+-- the verdict
+unfoldable pub fixed_by : List Task → List Row → Verdict
+fixed_by tasks c =
+    let n = length c in
     let long = long_from c n 0 1 in
     let dp2 = first_below n (fixed_late 2 c) in
     let fp = first_below n (fixed_late 3 c) in
-    let number = first_of ((7, eqb n 0) ∷ (10, found long) ∷ (11, over_full c 1) ∷ (12, over_full c 2) ∷ (13, found dp2) ∷ (14, found fp) ∷ []) in
-    outcome_at number (cond (eqb number 10) long (cond (eqb number 13) dp2 (cond (eqb number 14) fp Nothing)))
+    let number = first_of ((7, eqb n 0) ∷ (10, is_some long) ∷ (11, over_full c 1) ∷ (12, over_full c 2) ∷ (13, is_some dp2) ∷ (14, is_some fp) ∷ []) in
+    record { number = number; task = name_of tasks (cond (eqb number 10) long (cond (eqb number 13) dp2 (cond (eqb number 14) fp None))) }
 
-pub fixed_outcome_lem : (c : Columns) → ((j : ℕ) → j < length c.queues → 0 < at c.periods j) → fixed_outcome c ≡ outcome_of c
-unfolding fixed_outcome outcome_of number_of place_of first_long first_late
-fixed_outcome_lem c pos =
-    let n = length c.queues in
+pub fixed_by_lem : (tasks : List Task) (c : List Row) → ((j : ℕ) → j < length c → 0 < (row_at c j).period) → fixed_by tasks c ≡ verdict_by tasks c
+unfolding fixed_by verdict_by number_of place_of first_long first_late
+fixed_by_lem tasks c pos =
+    let n = length c in
     let same : (queue : ℕ) → first_below n (fixed_late queue c) ≡ first_below n (late queue c) =
     λ queue. first_same (fixed_late queue c) (late queue c) n (λ i h. late_same queue c i h pos)
     in

@@ -3,6 +3,7 @@
 use Prim.Native.Nat.{ℕ, zero, suc, ◌+◌, ◌*◌, ◌-◌, ◌/◌, ◌∣◌, ◌≤◌, ◌<◌}
 use mathlib.Core.Path.{◌≡◌, refl, ap, subst, ◌∙◌}
 use mathlib.Core.Bool.{Bool, true, false, cond}
+use mathlib.Core.List.{List}
 use native.Mathlib.Nat.{
   mul-div_cancel',
   mul-pos,
@@ -18,8 +19,8 @@ use native.Mathlib.Omega.{arith}
 use lib.Dec.{leb, ltb}
 use lib.ListN.{length}
 use borrow.Author.Tests.{leb-true, ltb-true, ltb-false, lt-ltb, le-ltb, le-leb, lt-leb}
-use Rattle.judging.specs.declared.Columns.{Columns}
-use Rattle.judging.specs.Columns.{at, columns}
+use Rattle.judging.specs.declared.Row.{Row}
+use Rattle.judging.specs.Rows.{row_at}
 use Rattle.judging.specs.Periods.{plus, fractions, above_one, over_full}
 
 -- no denominator is 0
@@ -49,26 +50,26 @@ above_scaled h f s hp fp e = go (ltb h s) refl
         let a : f.1 * s ≤ f.1 * h = mul-le-mul_left f.1 (ltb-false h s k) in
         le-ltb f.1 f.0 (le_of_mul-le-mul_right (omega (arith, e)) hp)
 
-module _ (c : Columns) (last h : ℕ) where
+module _ (c : List Row) (last h : ℕ) where
   -- the sum over the first tasks, times the common multiple h
   unfoldable pub scaled : ℕ → ℕ
   scaled zero = 0
-  scaled (suc i) = scaled i + cond (leb (at c.queues i) last) (at c.loads i * (h / at c.periods i)) 0
+  scaled (suc i) = scaled i + cond (leb (row_at c i).queue last) ((row_at c i).load * (h / (row_at c i).period)) 0
 
   pub scaled_start : 0 ≡ scaled 0
   unfolding scaled
   scaled_start = refl
 
-  scaled_more : (i : ℕ) → scaled (i + 1) ≡ scaled i + cond (leb (at c.queues i) last) (at c.loads i * (h / at c.periods i)) 0
+  scaled_more : (i : ℕ) → scaled (i + 1) ≡ scaled i + cond (leb (row_at c i).queue last) ((row_at c i).load * (h / (row_at c i).period)) 0
   unfolding scaled
   scaled_more i = ap scaled (add-one i)
 
   -- a task of those queues more, and a task more of another
-  pub scaled_in : (i : ℕ) → at c.queues i ≤ last → scaled (i + 1) ≡ scaled i + at c.loads i * (h / at c.periods i)
-  scaled_in i q = scaled_more i ∙ rw (le-leb (at c.queues i) last q)
+  pub scaled_in : (i : ℕ) → (row_at c i).queue ≤ last → scaled (i + 1) ≡ scaled i + (row_at c i).load * (h / (row_at c i).period)
+  scaled_in i q = scaled_more i ∙ rw (le-leb (row_at c i).queue last q)
 
-  pub scaled_out : (i : ℕ) → last < at c.queues i → scaled (i + 1) ≡ scaled i
-  scaled_out i q = scaled_more i ∙ rw (lt-leb (at c.queues i) last q) (omega arith)
+  pub scaled_out : (i : ℕ) → last < (row_at c i).queue → scaled (i + 1) ≡ scaled i
+  scaled_out i q = scaled_more i ∙ rw (lt-leb (row_at c i).queue last q) (omega arith)
 
   scaled_far : (i k : ℕ) → scaled i ≤ scaled (k + i)
   unfolding scaled
@@ -81,44 +82,27 @@ module _ (c : Columns) (last h : ℕ) where
   pub scaled_mono : (i n : ℕ) → i ≤ n → scaled i ≤ scaled n
   scaled_mono i n l = subst (λ (m : ℕ). scaled i ≤ scaled m) (sub-add_cancel l) (scaled_far i (n - i))
 
-  den_pos : (i : ℕ) → ((j : ℕ) → j < i → 0 < at c.periods j) → 0 < (fractions c last i).1
+  den_pos : (i : ℕ) → ((j : ℕ) → j < i → 0 < (row_at c j).period) → 0 < (fractions c last i).1
   unfolding fractions
   den_pos zero pos = omega arith
   den_pos (suc i) pos =
-      den_step (leb (at c.queues i) last) (fractions c last i) (at c.loads i) (at c.periods i) (pos i (omega arith))
+      den_step (leb (row_at c i).queue last) (fractions c last i) (row_at c i).load (row_at c i).period (pos i (omega arith))
       (den_pos i (λ j l. pos j (omega arith)))
 
   -- numerator times h is denominator times the scaled sum
-  scaled_is : (i : ℕ) → ((j : ℕ) → j < i → at c.queues j ≤ last → at c.periods j ∣ h)
+  scaled_is : (i : ℕ) → ((j : ℕ) → j < i → (row_at c j).queue ≤ last → (row_at c j).period ∣ h)
       → (fractions c last i).0 * h ≡ (fractions c last i).1 * scaled i
   unfolding fractions scaled
   scaled_is zero div = omega arith
   scaled_is (suc i) div =
-      scaled_step h (leb (at c.queues i) last) (fractions c last i) (at c.loads i) (at c.periods i) (scaled i)
-      (λ e. div i (omega arith) (leb-true (at c.queues i) last e))
+      scaled_step h (leb (row_at c i).queue last) (fractions c last i) (row_at c i).load (row_at c i).period (scaled i)
+      (λ e. div i (omega arith) (leb-true (row_at c i).queue last e))
       (scaled_is i (λ j l q. div j (omega arith) q))
 
   -- the sum is above 1 exactly if the scaled sum is above h
-  pub over_full_lem : 0 < h → ((j : ℕ) → j < length c.queues → 0 < at c.periods j) → ((j : ℕ) → j < length c.queues → at c.queues j ≤ last → at c.periods j ∣ h)
-      → over_full c last ≡ ltb h (scaled (length c.queues))
+  pub over_full_lem : 0 < h → ((j : ℕ) → j < length c → 0 < (row_at c j).period) → ((j : ℕ) → j < length c → (row_at c j).queue ≤ last → (row_at c j).period ∣ h)
+      → over_full c last ≡ ltb h (scaled (length c))
   unfolding over_full
   over_full_lem hp pos div =
-      above_scaled h (fractions c last (length c.queues)) (scaled (length c.queues)) hp (den_pos (length c.queues) pos)
-      (scaled_is (length c.queues) div)
-
--- a common multiple in range, parted by a period in range
-pub part_small : (h p : ℕ) → h ≤ 1000000000000 → 1000 ≤ p → h / p ≤ 1000000000
-part_small h p hm pl =
-    let pos : 0 < p = omega arith in
-    let b : h / p < 1000000001 = (div-lt_iff_lt-mul {k = p} {x = h} {y = 1000000001} pos).1 (omega arith) in
-    omega arith
-
--- spans have no part in the sums
-fractions_spanned : (c : Columns) (last i : ℕ) → fractions (columns c.queues c.periods c.loads) last i ≡ fractions c last i
-unfolding fractions
-fractions_spanned c last zero = refl
-fractions_spanned c last (suc i) = rw (fractions_spanned c last i)
-
-pub full_spanned : (c : Columns) (last : ℕ) → over_full (columns c.queues c.periods c.loads) last ≡ over_full c last
-unfolding over_full
-full_spanned c last = ap above_one (fractions_spanned c last (length c.queues))
+      above_scaled h (fractions c last (length c)) (scaled (length c)) hp (den_pos (length c) pos)
+      (scaled_is (length c) div)

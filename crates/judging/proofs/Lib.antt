@@ -3,7 +3,7 @@ pub mod PeriodLaws
 pub mod FractionLaws
 pub mod DemandLaws
 pub mod FirstLaws
-pub mod ColumnLaws
+pub mod RowLaws
 pub mod VerdictLaws
 pub mod PassLaws
 pub mod FixedLaws

@@ -4,7 +4,7 @@ use Prim.Native.Nat.{ℕ, zero, suc, ◌+◌, ◌*◌, ◌/◌, ◌%◌, ◌∣�
 use mathlib.Core.Path.{◌≡◌, refl, sym, ap, subst, ◌∙◌}
 use mathlib.Core.Logic.{◌⊎◌, inl, inr}
 use mathlib.Core.Bool.{Bool, true, false, cond}
-use mathlib.Core.List.{[]}
+use mathlib.Core.List.{List}
 use native.Mathlib.Nat.{
   mod-lt,
   mul_comm,
@@ -34,8 +34,8 @@ use native.Mathlib.Numerals.{add-one}
 use native.Mathlib.Omega.{arith}
 use lib.Dec.{eqb, leb, ltb}
 use borrow.Author.Tests.{eqb-true, eqb-false, leb-true, leb-false, le-leb, lt-leb, lt-ltb, le-ltb, ne_eqb}
-use Rattle.judging.specs.declared.Columns.{Columns}
-use Rattle.judging.specs.Columns.{at, columns}
+use Rattle.judging.specs.declared.Row.{Row}
+use Rattle.judging.specs.Rows.{row_at}
 use Rattle.judging.specs.Periods.{gcd_in, gcd_of, lcm_of, shared_period, IsSharedPeriod, too_long}
 
 -- more steps than are needed change nothing
@@ -140,28 +140,28 @@ module _ (a b : ℕ) (ha : 0 < a) (hb : 0 < b) where
       dvd_of_mul-dvd-mul_left (a * y) gcd_pos (subst (λ (z : ℕ). z ∣ g * m) e s)
 
 -- what the running number is: it divides every common multiple
-record Running (c : Columns) (tasks h : ℕ) : Type 0 where
+record Running (c : List Row) (tasks h : ℕ) : Type 0 where
   positive : 0 < h
-  common : (j : ℕ) → j < tasks → at c.queues j ≤ 2 → at c.periods j ∣ h
-  divides : (m : ℕ) → ((j : ℕ) → j < tasks → at c.queues j ≤ 2 → at c.periods j ∣ m) → h ∣ m
+  common : (j : ℕ) → j < tasks → (row_at c j).queue ≤ 2 → (row_at c j).period ∣ h
+  divides : (m : ℕ) → ((j : ℕ) → j < tasks → (row_at c j).queue ≤ 2 → (row_at c j).period ∣ m) → h ∣ m
 
-module _ (c : Columns) where
+module _ (c : List Row) where
   -- a DP task more, and a task more that is none
-  run_in : (i h : ℕ) → 0 < at c.periods i → at c.queues i ≤ 2 → Running c i h → Running c (suc i) (lcm_of h (at c.periods i))
+  run_in : (i h : ℕ) → 0 < (row_at c i).period → (row_at c i).queue ≤ 2 → Running c i h → Running c (suc i) (lcm_of h (row_at c i).period)
   run_in i h pos dp r =
       record {
-        positive = lcm_pos h (at c.periods i) r.positive pos;
+        positive = lcm_pos h (row_at c i).period r.positive pos;
         common = λ j k q. each j q (eq-or-lt_of_le (le_of_suc-le-suc k));
         divides =
             λ m k.
-            lcm_divides h (at c.periods i) r.positive pos m (r.divides m (λ j l q. k j (omega arith) q)) (k i (omega arith) dp);
+            lcm_divides h (row_at c i).period r.positive pos m (r.divides m (λ j l q. k j (omega arith) q)) (k i (omega arith) dp);
       }
     where
-      each : (j : ℕ) → at c.queues j ≤ 2 → (j ≡ i) ⊎ (j < i) → at c.periods j ∣ lcm_of h (at c.periods i)
-      each j q (inl s) = subst (λ (z : ℕ). at c.periods z ∣ lcm_of h (at c.periods i)) (sym s) (lcm_right h (at c.periods i) r.positive pos)
-      each j q (inr l) = dvd_trans (at c.periods j) (r.common j l q) (lcm_left h (at c.periods i) r.positive pos)
+      each : (j : ℕ) → (row_at c j).queue ≤ 2 → (j ≡ i) ⊎ (j < i) → (row_at c j).period ∣ lcm_of h (row_at c i).period
+      each j q (inl s) = subst (λ (z : ℕ). (row_at c z).period ∣ lcm_of h (row_at c i).period) (sym s) (lcm_right h (row_at c i).period r.positive pos)
+      each j q (inr l) = dvd_trans (row_at c j).period (r.common j l q) (lcm_left h (row_at c i).period r.positive pos)
 
-  run_out : (i h : ℕ) → 2 < at c.queues i → Running c i h → Running c (suc i) h
+  run_out : (i h : ℕ) → 2 < (row_at c i).queue → Running c i h → Running c (suc i) h
   run_out i h fp r =
       record {
         positive = r.positive;
@@ -169,16 +169,16 @@ module _ (c : Columns) where
         divides = λ m k. r.divides m (λ j l q. k j (omega arith) q);
       }
     where
-      each : (j : ℕ) → at c.queues j ≤ 2 → (j ≡ i) ⊎ (j < i) → at c.periods j ∣ h
-      each j q (inl s) = let m : at c.queues j ≡ at c.queues i = ap (at c.queues) s in absurd (omega arith)
+      each : (j : ℕ) → (row_at c j).queue ≤ 2 → (j ≡ i) ⊎ (j < i) → (row_at c j).period ∣ h
+      each j q (inl s) = let m : (row_at c j).queue ≡ (row_at c i).queue = ap (λ (k : ℕ). (row_at c k).queue) s in absurd (omega arith)
       each j q (inr l) = r.common j l q
 
-  run_on : (t : Bool) (i h : ℕ) → leb (at c.queues i) 2 ≡ t → 0 < at c.periods i → Running c i h
-      → Running c (suc i) (cond t (lcm_of h (at c.periods i)) h)
-  run_on true i h e pos r = run_in i h pos (leb-true (at c.queues i) 2 e) r
-  run_on false i h e pos r = run_out i h (leb-false (at c.queues i) 2 e) r
+  run_on : (t : Bool) (i h : ℕ) → leb (row_at c i).queue 2 ≡ t → 0 < (row_at c i).period → Running c i h
+      → Running c (suc i) (cond t (lcm_of h (row_at c i).period) h)
+  run_on true i h e pos r = run_in i h pos (leb-true (row_at c i).queue 2 e) r
+  run_on false i h e pos r = run_out i h (leb-false (row_at c i).queue 2 e) r
 
-  running : (i : ℕ) → ((j : ℕ) → j < i → 0 < at c.periods j) → Running c i (shared_period c i)
+  running : (i : ℕ) → ((j : ℕ) → j < i → 0 < (row_at c j).period) → Running c i (shared_period c i)
   unfolding shared_period
   running zero pos =
       record {
@@ -187,35 +187,35 @@ module _ (c : Columns) where
         divides = λ m h. ∣ (m, omega arith) ∣₁;
       }
   running (suc i) pos =
-      run_on (leb (at c.queues i) 2) i (shared_period c i) refl (pos i (omega arith)) (running i (λ j h. pos j (omega arith)))
+      run_on (leb (row_at c i).queue 2) i (shared_period c i) refl (pos i (omega arith)) (running i (λ j h. pos j (omega arith)))
 
   -- the computed shared period is the least positive common multiple of the periods of the DP tasks
-  pub shared_least : (i : ℕ) → ((j : ℕ) → j < i → 0 < at c.periods j) → IsSharedPeriod c i (shared_period c i)
+  pub shared_least : (i : ℕ) → ((j : ℕ) → j < i → 0 < (row_at c j).period) → IsSharedPeriod c i (shared_period c i)
   shared_least i pos =
       let r = running i pos in
       record { positive = r.positive; common = r.common; least = λ m k d. le_of_dvd k (r.divides m d) }
 
   -- a DP task more, by its part of the period that is not shared yet
-  pub shared_in : (i h g : ℕ) → at c.queues i ≤ 2 → h ≡ shared_period c i → g ≡ gcd_of h (at c.periods i)
-      → h * (at c.periods i / g) ≡ shared_period c (i + 1)
+  pub shared_in : (i h g : ℕ) → (row_at c i).queue ≤ 2 → h ≡ shared_period c i → g ≡ gcd_of h (row_at c i).period
+      → h * ((row_at c i).period / g) ≡ shared_period c (i + 1)
   unfolding shared_period lcm_of
   shared_in i h g q e k =
-      rw (add-one i, le-leb (at c.queues i) 2 q)
-      (ap (λ (z : ℕ). h * (at c.periods i / z)) k ∙ ap (λ (z : ℕ). z * (at c.periods i / gcd_of z (at c.periods i))) e)
+      rw (add-one i, le-leb (row_at c i).queue 2 q)
+      (ap (λ (z : ℕ). h * ((row_at c i).period / z)) k ∙ ap (λ (z : ℕ). z * ((row_at c i).period / gcd_of z (row_at c i).period)) e)
 
   -- a task more that is no DP task
-  pub shared_out : (i : ℕ) → 2 < at c.queues i → shared_period c (i + 1) ≡ shared_period c i
+  pub shared_out : (i : ℕ) → 2 < (row_at c i).queue → shared_period c (i + 1) ≡ shared_period c i
   unfolding shared_period
-  shared_out i q = rw (add-one i, lt-leb (at c.queues i) 2 q)
+  shared_out i q = rw (add-one i, lt-leb (row_at c i).queue 2 q)
 
   pub shared_start : 1 ≡ shared_period c 0
   unfolding shared_period
   shared_start = refl
 
   pub shared_suc : (i h : ℕ) → h ≡ shared_period c i
-      → cond (leb (at c.queues i) 2) (lcm_of h (at c.periods i)) h ≡ shared_period c (suc i)
+      → cond (leb (row_at c i).queue 2) (lcm_of h (row_at c i).period) h ≡ shared_period c (suc i)
   unfolding shared_period
-  shared_suc i h e = ap (λ (z : ℕ). cond (leb (at c.queues i) 2) (lcm_of z (at c.periods i)) z) e
+  shared_suc i h e = ap (λ (z : ℕ). cond (leb (row_at c i).queue 2) (lcm_of z (row_at c i).period) z) e
 
   pub long_test : (i g : ℕ) (t : Bool) → g ≡ shared_period c (suc i) → ltb 1000000000000 g ≡ t → too_long c i ≡ t
   unfolding too_long
@@ -229,12 +229,6 @@ module _ (c : Columns) where
   pub not_long : (i : ℕ) → shared_period c (i + 1) ≤ 1000000000000 → too_long c i ≡ false
   unfolding too_long
   not_long i h = le-ltb 1000000000000 (shared_period c (suc i)) (rw (add-one i) at h)
-
--- loads and spans have no part in the shared period
-pub shared_dated : (c : Columns) (i : ℕ) → shared_period (columns c.queues c.periods []) i ≡ shared_period c i
-unfolding shared_period
-shared_dated c zero = refl
-shared_dated c (suc i) = rw (shared_dated c i)
 
 -- a limit is compared with a product by a quotient
 pub product_above : (limit h part : ℕ) → 0 < part → limit / part < h → limit < h * part

@@ -1,85 +1,78 @@
 -- The verdict (01, "Numbers that come back" and "The tests").
-use Rattle.std.specs.Prelude.{ℕ, zero, suc, Bool, true, false, cond, not, ◌&&◌, List, [], ◌∷◌, eqb, length, get_or}
+use Rattle.std.specs.Prelude.{ℕ, zero, suc, Bool, cond, not, ◌&&◌, List, [], ◌∷◌, eqb, length, get_or, Option, Some, None, is_some, Result, Ok, Err}
+use Rattle.std.specs.Option.{option_or}
 use Rattle.table.specs.declared.Board.{Board}
 use Rattle.table.specs.declared.Task.{Task}
-use Rattle.table.specs.declared.Found.{Found}
-use Rattle.table.specs.declared.Found.TheVariants.{At, Nothing}
 use Rattle.table.specs.Entries.{blank_task}
 use Rattle.table.specs.Refusals.{first_of}
-use Rattle.judging.specs.declared.Columns.{Columns}
-use Rattle.judging.specs.declared.Outcome.{Outcome}
-use Rattle.judging.specs.declared.Shared.{Shared}
-use Rattle.judging.specs.declared.Shared.TheVariants.{Above, Within}
+use Rattle.judging.specs.declared.Row.{Row}
+use Rattle.judging.specs.declared.Unfit.{Unfit}
+use Rattle.judging.specs.declared.Unfit.TheVariants.{NoTask, SharedPeriod, Dp1OverFull, DpOverFull, Dp2NoTime, FpNoTime}
 use Rattle.judging.specs.declared.Verdict.{Verdict}
-use Rattle.judging.specs.Columns.{at, columns_of}
+use Rattle.judging.specs.Rows.{row_at, rows_of}
 use Rattle.judging.specs.Periods.{shared_period, too_long, over_full}
 use Rattle.judging.specs.Demands.{decided, time_dp2, time_fp}
 
--- the first place of two
-unfoldable pub or_else : Found → Found → Found
-or_else (At i) other = At i
-or_else Nothing other = other
-
 -- the first position below n at which the test holds
-unfoldable pub first_below : ℕ → (ℕ → Bool) → Found
-first_below zero test = Nothing
-first_below (suc n) test = or_else (first_below n test) (cond (test n) (At n) Nothing)
-
--- something was found
-unfoldable pub found : Found → Bool
-found (At i) = true
-found Nothing = false
+unfoldable pub first_below : ℕ → (ℕ → Bool) → Option ℕ
+first_below zero test = None
+first_below (suc n) test = option_or (first_below n test) (cond (test n) (Some n) None)
 
 -- 10: the first task at which the shared period is above 10^12
-unfoldable pub first_long : Columns → Found
-first_long c = first_below (length c.queues) (too_long c)
+unfoldable pub first_long : List Row → Option ℕ
+first_long rows = first_below (length rows) (too_long rows)
 
 -- the shared period of all DP tasks, or where it grew above 10^12
-unfoldable pub shared_by : Found → ℕ → Shared
-shared_by (At i) h = Above i
-shared_by Nothing h = Within h
+unfoldable pub shared_by : Option ℕ → ℕ → Result ℕ ℕ
+shared_by (Some i) h = Err i
+shared_by None h = Ok h
 
-unfoldable pub shared_of : Columns → Shared
-shared_of c = shared_by (first_long c) (shared_period c (length c.queues))
+unfoldable pub shared_of : List Row → Result ℕ ℕ
+shared_of rows = shared_by (first_long rows) (shared_period rows (length rows))
 
 -- 13 (queue 2): a DP2 task has no time; 14 (queue 3): an FP task has no time
-unfoldable pub late : ℕ → Columns → ℕ → Bool
-late queue c i = eqb (at c.queues i) queue && not (cond (eqb queue 2) (decided (time_dp2 c i)) (decided (time_fp c i)))
+unfoldable pub late : ℕ → List Row → ℕ → Bool
+late queue rows i = eqb (row_at rows i).queue queue && not (cond (eqb queue 2) (decided (time_dp2 rows i)) (decided (time_fp rows i)))
 
 -- 13 and 14: the first task in table order that has no time
-unfoldable pub first_late : ℕ → Columns → Found
-first_late queue c = first_below (length c.queues) (late queue c)
+unfoldable pub first_late : ℕ → List Row → Option ℕ
+first_late queue rows = first_below (length rows) (late queue rows)
 
 -- 01, "Numbers that come back": judging gives 7 where there is no task, and then goes 10, 11, 12, 13, 14
-unfoldable pub number_of : Columns → ℕ
-number_of c =
+unfoldable pub number_of : List Row → ℕ
+number_of rows =
     first_of
-    ((7, eqb (length c.queues) 0)
-    ∷ (10, found (first_long c))
-    ∷ (11, over_full c 1)
-    ∷ (12, over_full c 2)
-    ∷ (13, found (first_late 2 c))
-    ∷ (14, found (first_late 3 c))
+    ((7, eqb (length rows) 0)
+    ∷ (10, is_some (first_long rows))
+    ∷ (11, over_full rows 1)
+    ∷ (12, over_full rows 2)
+    ∷ (13, is_some (first_late 2 rows))
+    ∷ (14, is_some (first_late 3 rows))
     ∷ [])
 
 -- 01, "Numbers that come back": the first task in table order at which 10, 13 or 14 arises
-unfoldable pub place_of : Columns → ℕ → Found
-place_of c number = cond (eqb number 10) (first_long c) (cond (eqb number 13) (first_late 2 c) (cond (eqb number 14) (first_late 3 c) Nothing))
-
-abbrev pub outcome_at : ℕ → Found → Outcome
-outcome_at number place = record { number = number; place = place }
-
-unfoldable pub outcome_of : Columns → Outcome
-outcome_of c = outcome_at (number_of c) (place_of c (number_of c))
+unfoldable pub place_of : List Row → ℕ → Option ℕ
+place_of rows number = cond (eqb number 10) (first_long rows) (cond (eqb number 13) (first_late 2 rows) (cond (eqb number 14) (first_late 3 rows) None))
 
 -- the number of the task at a place, and 0 where there is none
-unfoldable pub name_of : List Task → Found → ℕ
-name_of tasks (At i) = (get_or tasks i blank_task).number
-name_of tasks Nothing = 0
+unfoldable pub name_of : List Task → Option ℕ → ℕ
+name_of tasks (Some i) = (get_or tasks i blank_task).number
+name_of tasks None = 0
 
-unfoldable pub named : List Task → Outcome → Verdict
-named tasks o = record { number = o.number; task = name_of tasks o.place }
+-- the verdict on these tasks, by their rows
+unfoldable pub verdict_by : List Task → List Row → Verdict
+verdict_by tasks rows = record { number = number_of rows; task = name_of tasks (place_of rows (number_of rows)) }
 
 -- what judging answers for these tasks at these figures
 unfoldable pub verdict_of : List Task → Board → Verdict
-verdict_of tasks board = named tasks (outcome_of (columns_of tasks board))
+verdict_of tasks board = verdict_by tasks (rows_of tasks board)
+
+-- 01, "Numbers that come back": the number of each answer, and the task that it names, 0 where it names none
+abbrev pub told : {A : Type 0} → Result A Unfit → Verdict
+told (Ok x) = record { number = 0; task = 0 }
+told (Err NoTask) = record { number = 7; task = 0 }
+told (Err (SharedPeriod task)) = record { number = 10; task = task }
+told (Err Dp1OverFull) = record { number = 11; task = 0 }
+told (Err DpOverFull) = record { number = 12; task = 0 }
+told (Err (Dp2NoTime task)) = record { number = 13; task = task }
+told (Err (FpNoTime task)) = record { number = 14; task = task }

@@ -1,159 +1,124 @@
 // Judging a state: each test in its order, and the first task at which one arises.
 ghost use Rattle.std.specs.Prelude.{◌≡◌, ◌≤◌, ◌<◌, length, take};
-ghost use Rattle.table.specs.declared.Found.TheVariants.{At, Nothing};
 ghost use Rattle.executive.specs.States.{tasks_of};
 ghost use Rattle.executive.specs.Sound.{Sound};
-ghost use Rattle.judging.specs.Columns.{columns, with_spans, first_tasks, columns_of};
-ghost use Rattle.judging.specs.Ranges.{InRange, SpansInRange};
-ghost use Rattle.judging.specs.Verdicts.{late, first_late, outcome_at, outcome_of, verdict_of};
+ghost use Rattle.judging.specs.Rows.{rows_of};
+ghost use Rattle.judging.specs.Ranges.{InRange};
+ghost use Rattle.judging.specs.Verdicts.{late, first_late, verdict_by, verdict_of, told};
 
-use crate::{Columns, Outcome, Shared, Verdict, search, sums};
+use crate::{Row, Unfit, Verdict, search, sums};
 use charges::Counts;
 use executive::state::State;
-use table::{Board, Found, Task, numbers};
+use table::refusals::Refusal;
+use table::{Board, Task};
 
-// Whether the task at i is in the queue and has no time. For an FP task all tasks up to it count, each as a DP1 task
-// counts.
-fn late(queues: &[u8], periods: &[u64], loads: &[u64], spans: &[u64], queue: u8, i: usize) -> bool
-    requires { InRange (columns queues.now periods.now loads.now)
-        × SpansInRange (length queues.now) spans.now
-        × (i < length queues.now) }
-    ensures { result
-        ≡ late queue
-        (with_spans (columns queues.now periods.now loads.now) spans.now)
-        i }
+// Whether the task at i is in the queue and has no time: among all tasks for a DP2 task, among those up to it for an FP
+// task. The definition has the same two cases, so that a search handed in would be no plainer.
+fn late(rows: &[Row], queue: u8, i: usize) -> bool
+    requires { InRange rows.now × (i < length rows.now) }
+    ensures { result ≡ late queue rows.now i }
 {
-    if queues[i] != queue {
+    let row = rows[i];
+    if row.queue != queue {
         return false;
     }
     if queue == 2 {
-        return !search::has_time(queues, periods, loads, periods[i]);
+        return !search::has_time(rows, Some(row.period), row.period);
     }
-    let whole = [1u8; 64];
-    let end = i + 1;
-    !search::has_time(&whole[..end], &periods[..end], &loads[..end], spans[i])
+    !search::has_time(&rows[..i + 1], None, row.span)
 }
 
 // The first task of the queue in table order that has no time.
-fn first_late(queues: &[u8], periods: &[u64], loads: &[u64], spans: &[u64], queue: u8) -> Found
-    requires { InRange (columns queues.now periods.now loads.now)
-        × SpansInRange (length queues.now) spans.now }
-    ensures { result
-        ≡ first_late queue
-        (with_spans (columns queues.now periods.now loads.now) spans.now) }
+fn first_late(rows: &[Row], queue: u8) -> Option<usize>
+    requires { InRange rows.now }
+    ensures { result ≡ first_late queue rows.now }
 {
-    let mut i: usize = 0;
-    while i < queues.len() {
-        if late(queues, periods, loads, spans, queue, i) {
-            return Found::At(i);
+    for i in 0..rows.len() {
+        if late(rows, queue, i) {
+            return Some(i);
         }
-        i += 1;
     }
-    Found::Nothing
-}
-
-// A number that names no task, and one that does.
-fn unnamed(number: u8) -> Outcome
-    ensures { result ≡ outcome_at number Nothing }
-{
-    Outcome {
-        number,
-        place: Found::Nothing,
-    }
-}
-
-fn named(number: u8, i: usize) -> Outcome
-    ensures { result ≡ outcome_at number (At i) }
-{
-    Outcome {
-        number,
-        place: Found::At(i),
-    }
+    None
 }
 
 // The tests in their order: 7, 10, 11, 12, 13, 14.
-fn outcome(queues: &[u8], periods: &[u64], loads: &[u64], spans: &[u64]) -> Outcome
-    requires { InRange (columns queues.now periods.now loads.now)
-        × SpansInRange (length queues.now) spans.now }
-    ensures { result
-        ≡ outcome_of
-        (with_spans (columns queues.now periods.now loads.now) spans.now) }
+fn tested(tasks: &[Task], rows: &[Row]) -> Result<(), Unfit>
+    requires { InRange rows.now × (length tasks.now ≡ length rows.now) }
+    ensures { told result ≡ verdict_by tasks.now rows.now }
 {
-    if queues.len() == 0 {
-        return unnamed(numbers::NO_TASK);
+    if rows.is_empty() {
+        return Err(Unfit::NoTask);
     }
-    let shared = sums::shared_period(queues, periods);
-    match shared {
-        Shared::Above(i) => named(numbers::SHARED_PERIOD, i),
-        Shared::Within(h) => {
-            if sums::over_full(queues, periods, loads, 1, h) {
-                return unnamed(numbers::DP1_OVER_FULL);
-            }
-            if sums::over_full(queues, periods, loads, 2, h) {
-                return unnamed(numbers::DP_OVER_FULL);
-            }
-            let dp2 = first_late(queues, periods, loads, spans, 2);
-            if let Found::At(i) = dp2 {
-                return named(numbers::DP2_NO_TIME, i);
-            }
-            let fp = first_late(queues, periods, loads, spans, 3);
-            match fp {
-                Found::At(i) => named(numbers::FP_NO_TIME, i),
-                Found::Nothing => unnamed(numbers::DONE),
-            }
-        }
+    let h = match sums::shared_period(rows) {
+        Ok(h) => h,
+        Err(i) => return Err(Unfit::SharedPeriod(tasks[i].number)),
+    };
+    if sums::over_full(rows, 1, h) {
+        return Err(Unfit::Dp1OverFull);
     }
+    if sums::over_full(rows, 2, h) {
+        return Err(Unfit::DpOverFull);
+    }
+    let dp2 = first_late(rows, 2);
+    if let Some(i) = dp2 {
+        return Err(Unfit::Dp2NoTime(tasks[i].number));
+    }
+    let fp = first_late(rows, 3);
+    if let Some(i) = fp {
+        return Err(Unfit::FpNoTime(tasks[i].number));
+    }
+    Ok(())
 }
 
-// The columns of the first n tasks.
-fn columns_of(tasks: [Task; 64], n: usize, board: Board) -> Columns
-    requires { n ≤ 64 }
-    ensures { first_tasks n result ≡ columns_of (take n tasks) board }
+// The rows of the tasks, at most 64, as in `charges`, at the front of an array, as there is no heap.
+fn rows_of(tasks: &[Task], board: Board) -> [Row; 64]
+    requires { length tasks.now ≤ 64 }
+    ensures { take (length tasks.now) result ≡ rows_of tasks.now board }
 {
-    let counts = Counts::of(tasks, n, board);
-    let mut queues = [0u8; 64];
-    let mut periods = [0u64; 64];
-    let mut loads = [0u64; 64];
-    let mut spans = [0u64; 64];
-    let mut i: usize = 0;
-    while i < n {
-        let t = tasks[i];
-        queues[i] = t.queue;
-        periods[i] = t.period as u64;
-        loads[i] = counts.load(t);
-        spans[i] = t.span() as u64;
-        i += 1;
+    let counts = Counts::of(tasks, board);
+    let mut rows = [Row {
+        period: 0,
+        load: 0,
+        span: 0,
+        queue: 0,
+    }; 64];
+    for (i, task) in tasks.iter().enumerate() {
+        rows[i] = Row {
+            period: task.period as u64,
+            load: counts.load(*task),
+            span: task.span() as u64,
+            queue: task.queue,
+        };
     }
-    Columns {
-        queues,
-        periods,
-        loads,
-        spans,
-    }
+    rows
 }
 
-// Judges a state: the number of the first test that it fails, and the task at which that arises.
-pub fn judge(state: State) -> Verdict
+// Judges a state: the first test that it fails, and the task at which that arises.
+pub fn judge(state: State) -> Result<(), Unfit>
     requires { Sound state }
-    ensures { result ≡ verdict_of (tasks_of state) state.board }
+    ensures { told result ≡ verdict_of (tasks_of state) state.board }
 {
     let n = state.n;
-    let tasks = state.tasks;
-    let columns = columns_of(tasks, n, state.board);
-    let queues = columns.queues;
-    let periods = columns.periods;
-    let loads = columns.loads;
-    let spans = columns.spans;
-    let found = outcome(&queues[..n], &periods[..n], &loads[..n], &spans[..n]);
-    let place = found.place;
-    match place {
-        Found::At(i) => Verdict {
-            number: found.number,
-            task: tasks[i].number,
-        },
-        Found::Nothing => Verdict {
-            number: found.number,
-            task: 0,
-        },
+    let tasks = &state.tasks[..n];
+    let rows = rows_of(tasks, state.board);
+    tested(tasks, &rows[..n])
+}
+
+// An answer in document 01's numbers.
+pub fn told(answer: Result<(), Unfit>) -> Verdict
+    ensures { result ≡ told answer }
+{
+    let (refusal, task) = match answer {
+        Ok(()) => return Verdict { number: 0, task: 0 },
+        Err(Unfit::NoTask) => (Refusal::NoTask, 0),
+        Err(Unfit::SharedPeriod(task)) => (Refusal::SharedPeriod, task),
+        Err(Unfit::Dp1OverFull) => (Refusal::Dp1OverFull, 0),
+        Err(Unfit::DpOverFull) => (Refusal::DpOverFull, 0),
+        Err(Unfit::Dp2NoTime(task)) => (Refusal::Dp2NoTime, task),
+        Err(Unfit::FpNoTime(task)) => (Refusal::FpNoTime, task),
+    };
+    Verdict {
+        number: refusal.number(),
+        task,
     }
 }

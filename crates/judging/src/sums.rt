@@ -1,14 +1,13 @@
 // Tests 10, 11 and 12: the shared period of the DP tasks, and the sums of load/period.
-ghost use Rattle.std.specs.Prelude.{◌≡◌, ◌<◌, [], length};
-ghost use Rattle.judging.specs.Columns.{columns};
+ghost use Rattle.std.specs.Prelude.{◌≡◌};
 ghost use Rattle.judging.specs.Periods.{gcd_of, over_full};
-ghost use Rattle.judging.specs.Ranges.{PeriodsInRange, InRange, Common};
+ghost use Rattle.judging.specs.Ranges.{InRange, Common};
 ghost use Rattle.judging.specs.Verdicts.{shared_of};
 
-use crate::Shared;
+use crate::Row;
 use table::limits;
 
-// The greatest common divisor, by Euclid.
+// The greatest common divisor, by Euclid: it goes by rests and counts no index.
 fn gcd(a: u64, b: u64) -> u64
     ensures { result ≡ gcd_of a b }
 {
@@ -22,44 +21,39 @@ fn gcd(a: u64, b: u64) -> u64
     x
 }
 
-// The shared period, taken in table order; loads have no part in it. It is compared with its limit before it grows: no
-// product is too large.
-pub fn shared_period(queues: &[u8], periods: &[u64]) -> Shared
-    requires { (length periods.now ≡ length queues.now) × PeriodsInRange (length queues.now) periods.now }
-    ensures { result ≡ shared_of (columns queues.now periods.now []) }
+// The shared period, taken in table order, or the place at which it grows too long. It is compared with its limit
+// before it grows: no product is too large.
+pub fn shared_period(rows: &[Row]) -> Result<u64, usize>
+    requires { InRange rows.now }
+    ensures { result ≡ shared_of rows.now }
 {
     let mut h: u64 = 1;
-    let mut i: usize = 0;
-    while i < queues.len() {
-        if queues[i] <= 2 {
-            let period = periods[i];
-            let part = period / gcd(h, period);
+    for (i, row) in rows.iter().enumerate() {
+        if row.queue <= 2 {
+            let part = row.period / gcd(h, row.period);
             if limits::SHARED_PERIOD_MOST / part < h {
-                return Shared::Above(i);
+                return Err(i);
             }
-            h = h * part;
+            h *= part;
         }
-        i += 1;
     }
-    Shared::Within(h)
+    Ok(h)
 }
 
 // Whether the loads of the queues up to the last are more than their periods hold. Both sides go times the shared
 // period h, so that no fraction is rounded; a sum that is above h stays above, so that no sum grows too large.
-pub fn over_full(queues: &[u8], periods: &[u64], loads: &[u64], last: u8, h: u64) -> bool
-    requires { let c = columns queues.now periods.now loads.now in InRange c × Common c last h }
-    ensures { result ≡ over_full (columns queues.now periods.now loads.now) last }
+pub fn over_full(rows: &[Row], last: u8, h: u64) -> bool
+    requires { InRange rows.now × Common rows.now last h }
+    ensures { result ≡ over_full rows.now last }
 {
     let mut sum: u64 = 0;
-    let mut i: usize = 0;
-    while i < queues.len() {
-        if queues[i] <= last {
-            sum += loads[i] * (h / periods[i]);
+    for row in rows {
+        if row.queue <= last {
+            sum += row.load * (h / row.period);
             if h < sum {
                 return true;
             }
         }
-        i += 1;
     }
     false
 }

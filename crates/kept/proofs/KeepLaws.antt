@@ -1,5 +1,6 @@
 -- Each call keeps a sound state sound.
 -- Assumes nothing.
+use Rattle.std.specs.Prelude.{Option, Some, None}
 use Prim.Native.Nat.{ℕ, ◌≤◌, ◌<◌}
 use mathlib.Core.Path.{◌≡◌, refl, sym, ap, subst, ◌∙◌}
 use mathlib.Core.Logic.{◌≢◌, ◌⊎◌, inl, inr, ⊎_elim}
@@ -14,14 +15,11 @@ use Rattle.table.specs.declared.Task.{Task}
 use Rattle.table.specs.declared.Sem.{Sem}
 use Rattle.table.specs.declared.Status.{Status}
 use Rattle.table.specs.declared.Status.TheVariants.{Idle}
-use Rattle.table.specs.declared.Holder.{Holder}
-use Rattle.table.specs.declared.Found.{Found}
-use Rattle.table.specs.declared.Found.TheVariants.{At, Nothing}
 use Rattle.table.specs.Entries.{blank_task, blank_sem, with_status, with_deadline, with_holder, loaded_task, loaded_sem}
 use Rattle.table.specs.WellFormed.{WellFormed}
 use Rattle.table.proofs.SumLaws.{map_set}
 use Rattle.table.proofs.OrderLaws.{well_formed_same}
-use Rattle.waits.specs.Waits.{task_at, sem_at, waits_for, held_by, holder_of, waits_on, Ends}
+use Rattle.waits.specs.Waits.{task_at, sem_at, waits_for, holder_of, waits_on, Ends}
 use Rattle.waits.specs.Reaches.{Reaches}
 use Rattle.waits.proofs.ChainLaws.{waits_held, waits_none}
 use Rattle.waits.proofs.StandingLaws.{waits_below}
@@ -88,9 +86,9 @@ module _ (s : State) (sound : Sound s) where
   -- other task entries, which agree with the old ones, entry by entry, in what the table says
   module _ (tasks : List Task) (some : 1 ≤ s.n) (long : length tasks ≡ 64) (behind : drop s.n tasks ≡ drop s.n s.tasks)
       (same : map loaded_task (take s.n tasks) ≡ map loaded_task (tasks_of s)) where
-    pub tasks_kept : ((k : ℕ) → k < s.m → (i : ℕ) → held_by (sem_at (sems_of s) k).holder ≡ At i → (task_at (take s.n tasks) i).status ≢ Idle)
-        → ((i : ℕ) → i < s.n → (k : ℕ) → waits_for (task_at (take s.n tasks) i).status ≡ At k
-        → (k < s.m) × ((j : ℕ) × (held_by (sem_at (sems_of s) k).holder ≡ At j)))
+    pub tasks_kept : ((k : ℕ) → k < s.m → (i : ℕ) → (sem_at (sems_of s) k).holder ≡ Some i → (task_at (take s.n tasks) i).status ≢ Idle)
+        → ((i : ℕ) → i < s.n → (k : ℕ) → waits_for (task_at (take s.n tasks) i).status ≡ Some k
+        → (k < s.m) × ((j : ℕ) × ((sem_at (sems_of s) k).holder ≡ Some j)))
         → ((i : ℕ) → i < s.n → Ends (take s.n tasks) (sems_of s) i)
         → Sound (with_tasks s tasks)
     unfolding with_tasks tasks_of sems_of
@@ -113,8 +111,8 @@ module _ (s : State) (sound : Sound s) where
     abbrev pub Changed : State
     Changed = with_task s i (with_status (with_deadline (task_at (tasks_of s) i) at) now)
 
-    pub task_kept : ((k : ℕ) → k < s.m → held_by (sem_at (sems_of s) k).holder ≡ At i → now ≢ Idle)
-        → ((k : ℕ) → waits_for now ≡ At k → (k < s.m) × ((j : ℕ) × (held_by (sem_at (sems_of s) k).holder ≡ At j)))
+    pub task_kept : ((k : ℕ) → k < s.m → (sem_at (sems_of s) k).holder ≡ Some i → now ≢ Idle)
+        → ((k : ℕ) → waits_for now ≡ Some k → (k < s.m) × ((j : ℕ) × ((sem_at (sems_of s) k).holder ≡ Some j)))
         → ((j : ℕ) → j < s.n → Ends (tasks_of Changed) (sems_of s) j) → Sound Changed
     unfolding tasks_of with_tasks
     task_kept busy waiting ending =
@@ -131,18 +129,18 @@ module _ (s : State) (sound : Sound s) where
             unfold task_at in
             ap (map loaded_task) (take-set-lt s.n s.tasks i y h) ∙ map_set loaded_task (take s.n s.tasks) i y blank_task refl
 
-        awake : (k : ℕ) → k < s.m → (j : ℕ) → held_by (sem_at (sems_of s) k).holder ≡ At j → (b : Bool) → eqb j i ≡ b
+        awake : (k : ℕ) → k < s.m → (j : ℕ) → (sem_at (sems_of s) k).holder ≡ Some j → (b : Bool) → eqb j i ≡ b
             → (task_at (take s.n (set s.tasks i y)) j).status ≢ Idle
         awake k hk j e true q =
             let same = eqb-true j i q in
             λ idle.
-            busy k hk (e ∙ ap At same)
+            busy k hk (e ∙ ap Some same)
             (sym (ap (λ (t : Task). t.status) (task_set_same i h y)) ∙ ap (λ (x : ℕ). (task_at (tasks_of Changed) x).status) (sym same) ∙ idle)
         awake k hk j e false q =
             λ idle. (sound.holders k hk j e).1 (sym (ap (λ (t : Task). t.status) (task_set_other i h y j (eqb-false j i q))) ∙ idle)
 
-        held : (j : ℕ) → j < s.n → (k : ℕ) → waits_for (task_at (take s.n (set s.tasks i y)) j).status ≡ At k → (b : Bool) → eqb j i ≡ b
-            → (k < s.m) × ((x : ℕ) × (held_by (sem_at (sems_of s) k).holder ≡ At x))
+        held : (j : ℕ) → j < s.n → (k : ℕ) → waits_for (task_at (take s.n (set s.tasks i y)) j).status ≡ Some k → (b : Bool) → eqb j i ≡ b
+            → (k < s.m) × ((x : ℕ) × ((sem_at (sems_of s) k).holder ≡ Some x))
         held j hj k e true q =
             waiting k
             (sym (ap (λ (t : Task). waits_for t.status) (task_set_same i h y))
@@ -151,7 +149,7 @@ module _ (s : State) (sound : Sound s) where
             sound.waits j hj k (sym (ap (λ (t : Task). waits_for t.status) (task_set_other i h y j (eqb-false j i q))) ∙ e)
 
     -- where it waits for no semaphore then
-    pub calm_kept : waits_for now ≡ Nothing → ((k : ℕ) → k < s.m → held_by (sem_at (sems_of s) k).holder ≡ At i → now ≢ Idle) → Sound Changed
+    pub calm_kept : waits_for now ≡ None → ((k : ℕ) → k < s.m → (sem_at (sems_of s) k).holder ≡ Some i → now ≢ Idle) → Sound Changed
     calm_kept calm busy =
         task_kept busy (λ k e. let z : ◌≡◌ {A = ℕ} 0 1 = cc in absurd (omega arith))
         (λ j hj. ends_kept (tasks_of s) (tasks_of Changed) (sems_of s) (sems_of s) (λ x. end x (eqb x i) refl) j (sound.chains j hj))
@@ -169,12 +167,12 @@ module _ (s : State) (sound : Sound s) where
         end x false q = inr (on_same (tasks_of s) (tasks_of Changed) (sems_of s) x (task_set_other i h y x (eqb-false x i q)))
 
     -- where it waits for a semaphore whose holder does not reach it
-    pub wait_kept : (k j : ℕ) → waits_for now ≡ At k → now ≢ Idle → k < s.m → held_by (sem_at (sems_of s) k).holder ≡ At j
+    pub wait_kept : (k j : ℕ) → waits_for now ≡ Some k → now ≢ Idle → k < s.m → (sem_at (sems_of s) k).holder ≡ Some j
         → (Reaches (tasks_of s) (sems_of s) i j → ⊥) → Sound Changed
     wait_kept k j on awake hk by past =
         task_kept (λ x hx e. awake)
         (λ x e. let same : k ≡ x = cc in
-        (subst (λ (v : ℕ). v < s.m) same hk, (j, subst (λ (v : ℕ). held_by (sem_at (sems_of s) v).holder ≡ At j) same by)))
+        (subst (λ (v : ℕ). v < s.m) same hk, (j, subst (λ (v : ℕ). (sem_at (sems_of s) v).holder ≡ Some j) same by)))
         (λ x hx. ends_kept (tasks_of s) (tasks_of Changed) (sems_of s) (sems_of s) (λ v. end v (eqb v i) refl) x (sound.chains x hx))
       where
         y : Task
@@ -195,13 +193,13 @@ module _ (s : State) (sound : Sound s) where
         end v false q = inr (others v (eqb-false v i q))
 
   -- a semaphore that is held otherwise
-  module _ (k : ℕ) (h : k < s.m) (now : Holder) where
+  module _ (k : ℕ) (h : k < s.m) (now : Option ℕ) where
     abbrev pub Handed : State
     Handed = with_sem s k (with_holder (sem_at (sems_of s) k) now)
 
-    pub sem_kept : ((i : ℕ) → held_by now ≡ At i → (i < s.n) × ((task_at (tasks_of s) i).status ≢ Idle))
-        → ((i : ℕ) → i < s.n → waits_for (task_at (tasks_of s) i).status ≡ At k
-        → ((j : ℕ) × (held_by now ≡ At j)) × Ends (tasks_of s) (sems_of Handed) i)
+    pub sem_kept : ((i : ℕ) → now ≡ Some i → (i < s.n) × ((task_at (tasks_of s) i).status ≢ Idle))
+        → ((i : ℕ) → i < s.n → waits_for (task_at (tasks_of s) i).status ≡ Some k
+        → ((j : ℕ) × (now ≡ Some j)) × Ends (tasks_of s) (sems_of Handed) i)
         → Sound Handed
     unfolding with_sems tasks_of
     sem_kept holder waiter =
@@ -239,46 +237,46 @@ module _ (s : State) (sound : Sound s) where
             well_formed_same (tasks_of s) (tasks_of s) (sems_of s) (set (sems_of s) k y) s.board s.present refl
             (map_set loaded_sem (sems_of s) k y blank_sem refl) (sound.table e)
 
-        held : (j : ℕ) → j < s.m → (i : ℕ) → held_by (sem_at (sems_of Handed) j).holder ≡ At i → (b : Bool) → eqb j k ≡ b
+        held : (j : ℕ) → j < s.m → (i : ℕ) → (sem_at (sems_of Handed) j).holder ≡ Some i → (b : Bool) → eqb j k ≡ b
             → (i < s.n) × ((task_at (tasks_of s) i).status ≢ Idle)
         held j hj i e true q =
             holder i
-            (sym (ap (λ (x : Sem). held_by x.holder) (sem_set_same k h y))
-            ∙ ap (λ (x : ℕ). held_by (sem_at (sems_of Handed) x).holder) (sym (eqb-true j k q)) ∙ e)
+            (sym (ap (λ (x : Sem). x.holder) (sem_set_same k h y))
+            ∙ ap (λ (x : ℕ). (sem_at (sems_of Handed) x).holder) (sym (eqb-true j k q)) ∙ e)
         held j hj i e false q =
-            sound.holders j hj i (sym (ap (λ (x : Sem). held_by x.holder) (sem_set_other k h y j (eqb-false j k q))) ∙ e)
+            sound.holders j hj i (sym (ap (λ (x : Sem). x.holder) (sem_set_other k h y j (eqb-false j k q))) ∙ e)
 
-        waits : (i : ℕ) → i < s.n → (j : ℕ) → waits_for (task_at (tasks_of s) i).status ≡ At j → (b : Bool) → eqb j k ≡ b
-            → (j < s.m) × ((x : ℕ) × (held_by (sem_at (sems_of Handed) j).holder ≡ At x))
+        waits : (i : ℕ) → i < s.n → (j : ℕ) → waits_for (task_at (tasks_of s) i).status ≡ Some j → (b : Bool) → eqb j k ≡ b
+            → (j < s.m) × ((x : ℕ) × ((sem_at (sems_of Handed) j).holder ≡ Some x))
         waits i hi j e true q =
             let same = eqb-true j k q in
-            let w = (waiter i hi (e ∙ ap At same)).0 in (
+            let w = (waiter i hi (e ∙ ap Some same)).0 in (
               (sound.waits i hi j e).0,
               (
                 w.0,
-                ap (λ (x : ℕ). held_by (sem_at (sems_of Handed) x).holder) same ∙ ap (λ (x : Sem). held_by x.holder) (sem_set_same k h y) ∙ w.1,
+                ap (λ (x : ℕ). (sem_at (sems_of Handed) x).holder) same ∙ ap (λ (x : Sem). x.holder) (sem_set_same k h y) ∙ w.1,
               ),
             )
         waits i hi j e false q =
             let w = sound.waits i hi j e in
-            (w.0, (w.1.0, ap (λ (x : Sem). held_by x.holder) (sem_set_other k h y j (eqb-false j k q)) ∙ w.1.1))
+            (w.0, (w.1.0, ap (λ (x : Sem). x.holder) (sem_set_other k h y j (eqb-false j k q)) ∙ w.1.1))
 
         end : (x : ℕ) → Ends (tasks_of s) (sems_of Handed) x ⊎ (waits_on (tasks_of s) (sems_of Handed) x ≡ waits_on (tasks_of s) (sems_of s) x)
         end x = go (waits_for (task_at (tasks_of s) x).status) refl
           where
-            go : (f : Found) → waits_for (task_at (tasks_of s) x).status ≡ f
+            go : (f : Option ℕ) → waits_for (task_at (tasks_of s) x).status ≡ f
                 → Ends (tasks_of s) (sems_of Handed) x ⊎ (waits_on (tasks_of s) (sems_of Handed) x ≡ waits_on (tasks_of s) (sems_of s) x)
-            go Nothing e = inl (Ends.here (waits_none (tasks_of s) (sems_of Handed) x e))
-            go (At j) e = at (eqb j k) refl
+            go None e = inl (Ends.here (waits_none (tasks_of s) (sems_of Handed) x e))
+            go (Some j) e = at (eqb j k) refl
               where
                 at : (b : Bool) → eqb j k ≡ b
                     → Ends (tasks_of s) (sems_of Handed) x ⊎ (waits_on (tasks_of s) (sems_of Handed) x ≡ waits_on (tasks_of s) (sems_of s) x)
                 at true q =
                     let below = waits_below (tasks_of s) x j e in
                     let l = tasks_length_lem s sound in
-                    inl (waiter x (omega arith) (e ∙ ap At (eqb-true j k q))).1
+                    inl (waiter x (omega arith) (e ∙ ap Some (eqb-true j k q))).1
                 at false q =
                     inr
                     (waits_held (tasks_of s) (sems_of Handed) x j e
-                    ∙ ap (λ (y : Sem). held_by y.holder) (sem_set_other k h y j (eqb-false j k q))
+                    ∙ ap (λ (y : Sem). y.holder) (sem_set_other k h y j (eqb-false j k q))
                     ∙ sym (waits_held (tasks_of s) (sems_of s) x j e))

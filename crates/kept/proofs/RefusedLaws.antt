@@ -1,5 +1,6 @@
 -- A call that is refused changes nothing: each call is done, or hands back the very state. 90 is no refusal.
 -- Assumes nothing.
+use Rattle.std.specs.Prelude.{Option, Some, None}
 use Prim.Native.Nat.{ℕ}
 use mathlib.Core.Path.{◌≡◌, refl}
 use mathlib.Core.Logic.{◌⊎◌, inl, inr}
@@ -8,20 +9,17 @@ use mathlib.Core.List.{List, [], ◌∷◌}
 use borrow.Author.Tests.{eqb-false}
 use Rattle.table.specs.declared.Task.{Task}
 use Rattle.table.specs.declared.Status.TheVariants.{Ready, Event}
-use Rattle.table.specs.declared.Holder.{Holder}
-use Rattle.table.specs.declared.Holder.TheVariants.{Free, By}
-use Rattle.table.specs.declared.Found.{Found}
 use Rattle.table.specs.Places.{sem_place}
 use Rattle.waits.specs.Waits.{sem_at}
 use Rattle.waits.specs.Standing.{found_or, is_none, running_of, still_holds, closes_ring}
 use Rattle.executive.specs.declared.state.State.{State}
-use Rattle.executive.specs.declared.calls.Moved.{Moved}
+use Rattle.executive.specs.Calls.{Step}
 use Rattle.executive.specs.States.{tasks_of, sems_of}
 use Rattle.executive.specs.Calls.{now_does, moved, busy, untimely, no_event_wait, no_sem_wait, not_held, on_task, release_at, take_or_wait, acquire_at, give_at, complete_at, release_of, signal_of, withdraw_of, acquire_of, give_of, complete_of, block_of}
 use Rattle.executive.proofs.CallLaws.{call_keeps, on_keeps}
 
 -- done, or the very state
-abbrev pub Same : State → Moved → Type 0
+abbrev pub Same : State → Step → Type 0
 Same s r = (r.answer ≡ 0) ⊎ (r.state ≡ s)
 
 module _ (s : State) where
@@ -48,7 +46,7 @@ module _ (s : State) where
       call_keeps 26 (λ i. (21, is_none at) ∷ (29, not_held (sems_of s) i (found_or 0 at)) ∷ []) (moved s) (λ i. moved (give_at s (found_or 0 at)) 0)
       (Same s) (running_of (tasks_of s) (sems_of s)) (eqb-false 26 0 refl) (λ k. inr refl) (λ i e f. inl refl)
     where
-      at : Found
+      at : Option ℕ
       at = sem_place (sems_of s) number
 
   pub complete_same : Same s (complete_of s)
@@ -71,9 +69,9 @@ module _ (s : State) where
       (λ i. acquire_at s i (found_or 0 at)) (λ r. (r.answer ≡ 90) ⊎ Same s r) (running_of (tasks_of s) (sems_of s)) (eqb-false 26 0 refl)
       (λ k. inr (inr refl)) (λ i e f. go i (sem_at (sems_of s) (found_or 0 at)).holder)
     where
-      at : Found
+      at : Option ℕ
       at = sem_place (sems_of s) number
 
-      go : (i : ℕ) (x : Holder) → ((take_or_wait s i (found_or 0 at) x).answer ≡ 90) ⊎ Same s (take_or_wait s i (found_or 0 at) x)
-      go i Free = inr (inl refl)
-      go i (By j) = inl refl
+      go : (i : ℕ) (x : Option ℕ) → ((take_or_wait s i (found_or 0 at) x).answer ≡ 90) ⊎ Same s (take_or_wait s i (found_or 0 at) x)
+      go i None = inr (inl refl)
+      go i (Some j) = inl refl

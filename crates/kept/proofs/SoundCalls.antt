@@ -1,5 +1,6 @@
 -- Each call, accepted or refused, hands back a sound state where it was given one.
 -- Assumes nothing.
+use Rattle.std.specs.Prelude.{Option, Some, None}
 use Prim.Native.Nat.{ℕ, ◌+◌, ◌≤◌, ◌<◌}
 use mathlib.Core.Path.{◌≡◌, refl, sym, ap, subst, ◌∙◌}
 use mathlib.Core.Logic.{◌≢◌}
@@ -13,36 +14,33 @@ use Rattle.table.specs.declared.Task.{Task}
 use Rattle.table.specs.declared.Sem.{Sem}
 use Rattle.table.specs.declared.Status.{Status}
 use Rattle.table.specs.declared.Status.TheVariants.{Idle, Ready, Event, Waits}
-use Rattle.table.specs.declared.Holder.{Holder}
-use Rattle.table.specs.declared.Holder.TheVariants.{Free, By}
-use Rattle.table.specs.declared.Found.{Found}
-use Rattle.table.specs.declared.Found.TheVariants.{At, Nothing}
 use Rattle.table.specs.Entries.{span_of, with_status, with_deadline, with_holder}
 use Rattle.table.specs.Places.{sem_place}
 use Rattle.table.proofs.RefusalLaws.{first_of_zero}
-use Rattle.waits.specs.Waits.{task_at, sem_at, waits_for, held_by, Ends}
+use Rattle.waits.specs.Waits.{task_at, sem_at, waits_for, Ends}
 use Rattle.waits.specs.Standing.{found_and, found_or, is_none, is_ready, ready_at, waiter_at, reaches, running_of, heir_of, standing_of, still_holds, closes_ring}
 use Rattle.waits.proofs.RankLaws.{best_none}
 use Rattle.waits.proofs.ChainLaws.{waits_held, waits_none, reaches_true}
 use Rattle.waits.proofs.DispatchLaws.{runs_is}
 use Rattle.executive.specs.declared.state.State.{State}
-use Rattle.executive.specs.declared.calls.Moved.{Moved}
+use Rattle.executive.specs.Calls.{Step}
 use Rattle.executive.specs.States.{tasks_of, sems_of}
 use Rattle.executive.specs.Sound.{Sound}
 use Rattle.executive.specs.Calls.{with_tasks, with_task, with_sem, with_last, now_does, now_held, moved, busy, untimely, no_event_wait, no_sem_wait, not_held, release_at, take_or_wait, acquire_at, hand_over, give_at, complete_at, on_task, release_of, signal_of, withdraw_of, acquire_of, give_of, complete_of, block_of}
-use Rattle.executive.proofs.SoundLaws.{chained, tasks_length_lem, sems_length_lem, task_below, sem_below, runs_below, heir_below}
+use Rattle.executive.proofs.LookupLaws.{task_below, sem_below}
+use Rattle.executive.proofs.SoundLaws.{chained, tasks_length_lem, sems_length_lem, runs_below, heir_below}
 use Rattle.executive.proofs.CallLaws.{call_keeps, on_keeps, release_timely, holds_none}
 use Rattle.kept.proofs.KeepLaws.{calm_kept, wait_kept, sem_kept, sem_set_same, task_set_same}
 
 -- what a call hands back is sound
-abbrev Kept : Moved → Type 0
+abbrev Kept : Step → Type 0
 Kept r = Sound r.state
 
 -- something was found, where it is not refused that nothing was
-there : (f : Found) → is_none f ≡ false → f ≡ At (found_or 0 f)
+there : (f : Option ℕ) → is_none f ≡ false → f ≡ Some (found_or 0 f)
 unfolding is_none found_and found_or
-there Nothing e = let z : ◌≡◌ {A = ℕ} 0 1 = cc in absurd (omega arith)
-there (At i) e = refl
+there None e = let z : ◌≡◌ {A = ℕ} 0 1 = cc in absurd (omega arith)
+there (Some i) e = refl
 
 ready_not_idle : Ready ≢ Idle
 ready_not_idle e = let z : ◌≡◌ {A = ℕ} 0 1 = cc in omega arith
@@ -78,11 +76,11 @@ module _ (s : State) (sound : Sound s) where
       }
 
   -- a task that waits for no semaphore and is not idle then
-  pub does_kept : (i : ℕ) → i < s.n → (now : Status) → waits_for now ≡ Nothing → now ≢ Idle → Sound (now_does s i now)
+  pub does_kept : (i : ℕ) → i < s.n → (now : Status) → waits_for now ≡ None → now ≢ Idle → Sound (now_does s i now)
   unfolding now_does
   does_kept i h now calm awake = calm_kept s sound i h (task_at (tasks_of s) i).deadline now calm (λ k hk e. awake)
 
-  ready_none : waits_for Ready ≡ Nothing
+  ready_none : waits_for Ready ≡ None
   unfolding waits_for
   ready_none = refl
 
@@ -90,7 +88,7 @@ pub release_sound : (s : State) → Sound s → (number time : ℕ) → Sound (r
 unfolding release_of moved
 release_sound s sound number time =
     on_keeps s number (λ t. (23, busy t) ∷ (22, untimely s.last time) ∷ []) (λ i. release_at s i time) Kept (λ k. sound)
-    (λ i e f. go i (task_below s sound number i e) (release_timely (busy (task_at (tasks_of s) i)) s.last time f).1)
+    (λ i e f. go i (task_below s sound.sized number i e) (release_timely (busy (task_at (tasks_of s) i)) s.last time f).1)
   where
     go : (i : ℕ) → i < s.n → time ≤ 1000000000000000 → Sound (release_at s i time)
     go i h small =
@@ -104,7 +102,7 @@ wakes_sound : (s : State) → Sound s → (number : ℕ) (refusals : Task → Li
 unfolding moved
 wakes_sound s sound number refusals =
     on_keeps s number refusals (λ i. now_does s i Ready) Kept (λ k. sound)
-    (λ i e f. does_kept s sound i (task_below s sound number i e) Ready (ready_none s sound) ready_not_idle)
+    (λ i e f. does_kept s sound i (task_below s sound.sized number i e) Ready (ready_none s sound) ready_not_idle)
 
 pub signal_sound : (s : State) → Sound s → (number : ℕ) → Sound (signal_of s number).state
 unfolding signal_of
@@ -132,33 +130,33 @@ complete_sound s sound =
     absurd (holds_none (sems_of s) i (first_of_zero 27 (still_holds (sems_of s) i) [] (eqb-false 27 0 refl) f).0 k (omega arith) by)))
 
 -- what the running task may do to a semaphore that there is
-module _ (s : State) (sound : Sound s) (i : ℕ) (run : running_of (tasks_of s) (sems_of s) ≡ At i) (k : ℕ) (h : k < s.m) where
+module _ (s : State) (sound : Sound s) (i : ℕ) (run : running_of (tasks_of s) (sems_of s) ≡ Some i) (k : ℕ) (h : k < s.m) where
   -- it takes a free one, for which nobody waits
-  take_kept : (sem_at (sems_of s) k).holder ≡ Free → Sound (now_held s k (By i))
-  unfolding now_held ready_at held_by
+  take_kept : (sem_at (sems_of s) k).holder ≡ None → Sound (now_held s k (Some i))
+  unfolding now_held ready_at
   take_kept free =
-      sem_kept s sound k h (By i)
+      sem_kept s sound k h (Some i)
       (λ j e.
       let same : i ≡ j = cc in
       subst (λ (x : ℕ). (x < s.n) × ((task_at (tasks_of s) x).status ≢ Idle)) same
       (runs_below s sound i run, ready_awake (task_at (tasks_of s) i).status (runs_is (tasks_of s) (sems_of s) i run).passes))
       (λ j hj e.
       let w = (sound.waits j hj k e).1.1 in
-      let f = ap held_by free in
+      let f = free in
       let z : ◌≡◌ {A = ℕ} 0 1 = cc in
       absurd (omega arith))
 
   -- it waits for one that is held, where that closes no ring
-  wait_for_kept : (j : ℕ) → (sem_at (sems_of s) k).holder ≡ By j → closes_ring (tasks_of s) (sems_of s) i k ≡ false → Sound (now_does s i (Waits k))
-  unfolding now_does closes_ring held_by found_and
+  wait_for_kept : (j : ℕ) → (sem_at (sems_of s) k).holder ≡ Some j → closes_ring (tasks_of s) (sems_of s) i k ≡ false → Sound (now_does s i (Waits k))
+  unfolding now_does closes_ring found_and
   wait_for_kept j by gap =
       wait_kept s sound i (runs_below s sound i run) (task_at (tasks_of s) i).deadline (Waits k) k j (unfold waits_for in refl)
-      (λ q. let z : ◌≡◌ {A = ℕ} 0 1 = cc in omega arith) h (ap held_by by)
+      (λ q. let z : ◌≡◌ {A = ℕ} 0 1 = cc in omega arith) h by
       (λ r.
-      let below = (sound.holders k h j (ap held_by by)).0 in
+      let below = (sound.holders k h j by).0 in
       let l = tasks_length_lem s sound in
       let t = reaches_true (tasks_of s) (sems_of s) (chained s sound) i j (omega arith) r in
-      let f : reaches (tasks_of s) (sems_of s) i j ≡ false = sym (ap (λ (x : Holder). found_and (reaches (tasks_of s) (sems_of s) i) (held_by x)) by) ∙ gap in
+      let f : reaches (tasks_of s) (sems_of s) i j ≡ false = sym (ap (λ (x : Option ℕ). found_and (reaches (tasks_of s) (sems_of s) i) x) by) ∙ gap in
       let z : ◌≡◌ {A = ℕ} 0 1 = cc in
       omega arith)
 
@@ -166,17 +164,17 @@ module _ (s : State) (sound : Sound s) (i : ℕ) (run : running_of (tasks_of s) 
   unfolding acquire_at take_or_wait moved
   acquire_kept gap = go (sem_at (sems_of s) k).holder refl
     where
-      go : (x : Holder) → (sem_at (sems_of s) k).holder ≡ x → Sound (take_or_wait s i k (sem_at (sems_of s) k).holder).state
-      go Free e = rw e (take_kept e)
-      go (By j) e = rw e (wait_for_kept j e gap)
+      go : (x : Option ℕ) → (sem_at (sems_of s) k).holder ≡ x → Sound (take_or_wait s i k (sem_at (sems_of s) k).holder).state
+      go None e = rw e (take_kept e)
+      go (Some j) e = rw e (wait_for_kept j e gap)
 
 -- what a give does
 module _ (s : State) (sound : Sound s) (k : ℕ) (h : k < s.m) where
   -- it frees a semaphore that nobody waits for
-  free_kept : heir_of (tasks_of s) (sems_of s) k ≡ Nothing → Sound (now_held s k Free)
-  unfolding now_held held_by heir_of waiter_at
+  free_kept : heir_of (tasks_of s) (sems_of s) k ≡ None → Sound (now_held s k None)
+  unfolding now_held heir_of waiter_at
   free_kept none =
-      sem_kept s sound k h Free
+      sem_kept s sound k h None
       (λ i e. let z : ◌≡◌ {A = ℕ} 0 1 = cc in absurd (omega arith))
       (λ i hi e.
       let l = tasks_length_lem s sound in
@@ -186,15 +184,15 @@ module _ (s : State) (sound : Sound s) (k : ℕ) (h : k < s.m) where
       absurd (omega arith))
 
   -- it hands it to a waiter, which is ready then
-  hand_kept : (w : ℕ) → w < s.n → Sound (now_held (now_does s w Ready) k (By w))
-  unfolding now_held held_by
+  hand_kept : (w : ℕ) → w < s.n → Sound (now_held (now_does s w Ready) k (Some w))
+  unfolding now_held
   hand_kept w hw =
-      sem_kept next kept k (unfold now_does with_tasks in h) (By w)
+      sem_kept next kept k (unfold now_does with_tasks in h) (Some w)
       (λ i e.
       let same : w ≡ i = cc in
       subst (λ (x : ℕ). (x < next.n) × ((task_at (tasks_of next) x).status ≢ Idle)) same
       (unfold now_does with_tasks in hw, λ q. ready_not_idle (sym now ∙ q)))
-      (λ i hi e. ((w, refl), Ends.there (waits_held (tasks_of next) (sems_of last) i k e ∙ ap (λ (x : Sem). held_by x.holder) held) end))
+      (λ i hi e. ((w, refl), Ends.there (waits_held (tasks_of next) (sems_of last) i k e ∙ ap (λ (x : Sem). x.holder) held) end))
     where
       next : State
       next = now_does s w Ready
@@ -206,10 +204,10 @@ module _ (s : State) (sound : Sound s) (k : ℕ) (h : k < s.m) where
       now = unfold now_does in ap (λ (t : Task). t.status) (task_set_same s sound w hw (with_status (task_at (tasks_of s) w) Ready))
 
       last : State
-      last = with_sem next k (with_holder (sem_at (sems_of next) k) (By w))
+      last = with_sem next k (with_holder (sem_at (sems_of next) k) (Some w))
 
-      held : sem_at (sems_of last) k ≡ with_holder (sem_at (sems_of next) k) (By w)
-      held = sem_set_same next kept k (unfold now_does with_tasks in h) (with_holder (sem_at (sems_of next) k) (By w))
+      held : sem_at (sems_of last) k ≡ with_holder (sem_at (sems_of next) k) (Some w)
+      held = sem_set_same next kept k (unfold now_does with_tasks in h) (with_holder (sem_at (sems_of next) k) (Some w))
 
       end : Ends (tasks_of next) (sems_of last) w
       end = Ends.here (waits_none (tasks_of next) (sems_of last) w (ap waits_for now ∙ ready_none s sound))
@@ -218,9 +216,9 @@ module _ (s : State) (sound : Sound s) (k : ℕ) (h : k < s.m) where
   unfolding give_at hand_over
   give_kept = go (heir_of (tasks_of s) (sems_of s) k) refl
     where
-      go : (f : Found) → heir_of (tasks_of s) (sems_of s) k ≡ f → Sound (hand_over s k (heir_of (tasks_of s) (sems_of s) k))
-      go Nothing e = rw e (free_kept e)
-      go (At w) e = rw e (hand_kept w (heir_below s sound k w e))
+      go : (f : Option ℕ) → heir_of (tasks_of s) (sems_of s) k ≡ f → Sound (hand_over s k (heir_of (tasks_of s) (sems_of s) k))
+      go None e = rw e (free_kept e)
+      go (Some w) e = rw e (hand_kept w (heir_below s sound k w e))
 
 pub acquire_sound : (s : State) → Sound s → (number : ℕ) → Sound (acquire_of s number).state
 unfolding acquire_of moved
@@ -230,9 +228,9 @@ acquire_sound s sound number =
     (λ i e f.
     let known = first_of_zero 21 (is_none at) ((28, closes_ring (tasks_of s) (sems_of s) i (found_or 0 at)) ∷ []) (eqb-false 21 0 refl) f in
     let gap = first_of_zero 28 (closes_ring (tasks_of s) (sems_of s) i (found_or 0 at)) [] (eqb-false 28 0 refl) known.1 in
-    acquire_kept s sound i e (found_or 0 at) (sem_below s sound number (found_or 0 at) (there at known.0)) gap.0)
+    acquire_kept s sound i e (found_or 0 at) (sem_below s sound.sized number (found_or 0 at) (there at known.0)) gap.0)
   where
-    at : Found
+    at : Option ℕ
     at = sem_place (sems_of s) number
 
 pub give_sound : (s : State) → Sound s → (number : ℕ) → Sound (give_of s number).state
@@ -242,7 +240,7 @@ give_sound s sound number =
     (λ i. moved (give_at s (found_or 0 at)) 0) Kept (running_of (tasks_of s) (sems_of s)) (eqb-false 26 0 refl) (λ k. sound)
     (λ i e f.
     let known = first_of_zero 21 (is_none at) ((29, not_held (sems_of s) i (found_or 0 at)) ∷ []) (eqb-false 21 0 refl) f in
-    give_kept s sound (found_or 0 at) (sem_below s sound number (found_or 0 at) (there at known.0)))
+    give_kept s sound (found_or 0 at) (sem_below s sound.sized number (found_or 0 at) (there at known.0)))
   where
-    at : Found
+    at : Option ℕ
     at = sem_place (sems_of s) number

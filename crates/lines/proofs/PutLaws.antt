@@ -4,13 +4,14 @@ use Prim.Native.Nat.{ℕ, zero, suc, ◌+◌, ◌*◌, ◌/◌, ◌%◌, ◌^◌
 use mathlib.Core.Path.{◌≡◌, refl, sym, ap, ◌∙◌}
 use mathlib.Core.Bool.{Bool, true, false}
 use mathlib.Core.List.{List, [], ◌∷◌, ◌++◌, append_assoc, append-nil}
-use native.Mathlib.Nat.{add-zero, add-suc, suc-add, add_assoc, mod-eq_of_lt}
+use native.Mathlib.Nat.{add-zero, add-suc, suc-add, mod-eq_of_lt}
 use native.Mathlib.Numerals.{add-one}
 use native.Mathlib.Omega.{arith}
 use lib.Dec.{ltb}
-use lib.ListN.{length, get_or, take, set, length-append}
+use lib.ListN.{length, get_or, take, drop, set, length-append}
 use lib.Pow.{pow-add}
-use lib.Seq.{sets, take-suc, length-sets}
+use lib.Seq.{sets, sets-eq, drop-drop, take-suc, length-sets}
+use borrow.Rule.Slice.PartMut.{put_mid}
 use borrow.Author.Tests.{ltb-true, ltb-false, lt-ltb, le-ltb}
 use Rattle.lines.specs.Lines.{digit, decimal_in, decimal, numbered, Put}
 
@@ -140,13 +141,18 @@ put_many n h k p q = rw (decimal_many n h k) (put_more (decimal (n / 10)) (digit
 pub put_length : {a b : List ℕ} {at end : ℕ} {bytes : List ℕ} → Put a at bytes b end → length b ≡ length a
 put_length {a} {b} {at} {end} {bytes} p = ap length p.contents ∙ length-sets a at bytes
 
--- a word is put byte by byte
-pub put_byte : (a b : List ℕ) (at : ℕ) (word : List ℕ) (i : ℕ) → i < length word → Put a at (take i word) b (at + i)
-    → Put a at (take (i + 1) word) (set b (at + i) (get_or word i 0)) (at + (i + 1))
-put_byte a b at word i h p =
-    let e : take (i + 1) word ≡ take i word ++ (get_or word i 0 ∷ []) = ap (λ (n : ℕ). take n word) (add-one i) ∙ take-suc word i 0 h in
-    let q = put_more (take i word) (get_or word i 0 ∷ []) p (put_one b (at + i) (get_or word i 0)) in
-    record { contents = rw e q.contents; ends = rw e (sym (add_assoc at i 1) ∙ q.ends) }
+-- a word is put in one piece
+pub put_whole : (l new : List ℕ) (at n : ℕ) (word : List ℕ) → new ≡ word → n ≡ length word → at + length word ≤ length l
+    → Put l at word (put_mid at n l new) (at + length word)
+put_whole l new at n word same e h =
+    let stores : sets l at word ≡ take at l ++ (word ++ drop (at + length word) l) =
+    sets-eq word l at h ∙ append_assoc (take at l) word (drop (at + length word) l) in
+    record {
+      contents =
+          ap (λ (m : List ℕ). take at l ++ (new ++ m)) (drop-drop n at l ∙ ap (λ (k : ℕ). drop (at + k) l) e)
+          ∙ (ap (λ (m : List ℕ). take at l ++ (m ++ drop (at + length word) l)) same ∙ sym stores);
+      ends = refl;
+    }
 
 -- the next number is put behind a blank
 pub put_number : (a b c : List ℕ) (at next end : ℕ) (l : List ℕ) (i : ℕ) → i < length l → Put a at (numbered (take i l)) b next

@@ -1,4 +1,5 @@
-// The lines that the checking program prints, put into a lent buffer.
+// The lines that the checking program prints, put into a lent buffer. A place goes in and the end comes out of each
+// function, as the promises of them all (`Put`) have it.
 #![tactic(auto)]
 
 ghost use Rattle.std.specs.Prelude.{◌+◌, ◌*◌, ◌%◌, ◌≤◌, ◌<◌, [], ◌∷◌, length};
@@ -13,7 +14,8 @@ fn put_digit(out: &mut [u8], at: usize, value: u64) -> usize
     at + 1
 }
 
-// Puts the decimal digits of a number at a place, and says where they end.
+// Puts the decimal digits of a number at a place, and says where they end. std prints numbers through io::Write alone,
+// whose answer may be an error, and which no library crate here stands on.
 pub fn put_decimal(out: &mut [u8], at: usize, value: u64) -> usize
     requires { at + 20 ≤ length out.old }
     ensures { Put out.old at (decimal value) out.new result }
@@ -30,12 +32,8 @@ pub fn put_word(out: &mut [u8], at: usize, word: &[u8]) -> usize
     requires { at + length word.now ≤ length out.old }
     ensures { Put out.old at word.now out.new result }
 {
-    let mut i: usize = 0;
-    while i < word.len() {
-        out[at + i] = word[i];
-        i += 1;
-    }
-    at + i
+    out[at..at + word.len()].copy_from_slice(word);
+    at + word.len()
 }
 
 // Puts each number behind a blank.
@@ -44,11 +42,9 @@ pub fn put_numbers(out: &mut [u8], at: usize, numbers: &[u64]) -> usize
     ensures { Put out.old at (numbered numbers.now) out.new result }
 {
     let mut next = at;
-    let mut i: usize = 0;
-    while i < numbers.len() {
+    for number in numbers {
         out[next] = 32;
-        next = put_decimal(out, next + 1, numbers[i]);
-        i += 1;
+        next = put_decimal(out, next + 1, *number);
     }
     next
 }

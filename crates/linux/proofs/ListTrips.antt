@@ -24,10 +24,9 @@ use Rattle.table.specs.Sums.{every}
 use Rattle.table.specs.WellFormed.{task_in_range, task_before, ordered}
 use Rattle.table.proofs.OrderLaws.{task_range, built_in_range, not_so}
 use Rattle.table.proofs.SumLaws.{both, both_left, both_right, every_at, every_append, any_map, none_any, every_weaker}
-use Rattle.executive.specs.declared.loaded.Loaded.{Loaded}
 use Rattle.executive.specs.States.{empty_state}
 use Rattle.executive.specs.Sound.{Sound}
-use Rattle.executive.specs.Reading.{refused_load, accepted_load, finished_load}
+use Rattle.executive.specs.Reading.{Reading, accepted_load, finished_load}
 use Rattle.executive.specs.Tables.{WellFormedTable, loaded_table, state_of}
 use Rattle.executive.proofs.ReadingLaws.{finished_some, finished_none, accepted_end}
 use Rattle.executive.proofs.TableLaws.{same_table, state_sound, empty_sound}
@@ -36,14 +35,14 @@ use Rattle.linux.specs.Attrs.{attr_in, attr_refusal, task_of}
 use Rattle.linux.specs.Lists.{inserted, list_table, read_from, records_of, read_records, read_of}
 use Rattle.linux.specs.Writing.{encode_attr}
 use Rattle.linux.proofs.InsertLaws.{Has, has_new, has_old, has_back, length_inserted, inserted_last}
-use Rattle.linux.proofs.ColumnLaws.{again}
+use Rattle.linux.proofs.PlaceLaws.{again}
 use Rattle.linux.proofs.ListLaws.{Growing, growing_start, grow, Passed, passed, read_stop, read_go, read_odd, read_whole}
 use Rattle.linux.proofs.AttrLaws.{attr_of, attr_in_lem, attr_passes, attr_task}
 use Rattle.linux.proofs.WriteLaws.{length_attr}
 
 -- the table of such tasks is well formed, and as it is after loading
 pub growing_well : (tasks : List Task) → Growing tasks → 1 ≤ length tasks → WellFormedTable (list_table tasks)
-unfolding list_table every ordered
+unfolding list_table ordered
 growing_well tasks g some =
     record {
       some = some;
@@ -70,7 +69,7 @@ growing_loaded tasks g = same_table (loaded_table (list_table tasks)) (list_tabl
     same l e = ap (map loaded_task) (sym e) ∙ (again_loaded l ∙ e)
 
 -- a reading that is accepted from a place on: what its tasks are
-pub record Ended (tasks : List Task) (at : ℕ) (rs : List (List ℕ)) (answer : Loaded) : Type 0 where
+pub record Ended (tasks : List Task) (at : ℕ) (rs : List (List ℕ)) (answer : Reading) : Type 0 where
   pub all : List Task
   pub growing : Growing all
   pub count : length all ≡ at + length rs
@@ -87,7 +86,7 @@ pub record Ended (tasks : List Task) (at : ℕ) (rs : List (List ℕ)) (answer :
 pub grown : (tasks : List Task) (at : ℕ) (a : Attr) → Growing tasks → at ≡ length tasks → Passed (length tasks) a → Growing (inserted task_before (task_of at a) tasks)
 grown tasks at a g e p = subst (λ (k : ℕ). Growing (inserted task_before (task_of k a) tasks)) (sym e) (grow tasks g a p)
 
-ended_on : (tasks : List Task) (at : ℕ) (r : List ℕ) (rest : List (List ℕ)) (answer : Loaded) → Passed at (attr_in r)
+ended_on : (tasks : List Task) (at : ℕ) (r : List ℕ) (rest : List (List ℕ)) (answer : Reading) → Passed at (attr_in r)
     → Ended (inserted task_before (task_of at (attr_in r)) tasks) (suc at) rest answer → Ended tasks at (r ∷ rest) answer
 ended_on tasks at r rest answer p e =
     let x = task_of at (attr_in r) in
@@ -128,7 +127,7 @@ ended_on tasks at r rest answer p e =
 
 ended_from : (rs : List (List ℕ)) (tasks : List Task) (at : ℕ) → Growing tasks → at ≡ length tasks → (read_from tasks at rs).number ≡ 0
     → Ended tasks at rs (read_from tasks at rs)
-unfolding read_from refused_load state_of list_table
+unfolding read_from state_of list_table
 ended_from [] tasks at g e h =
     let some = accepted_end (state_of (list_table tasks)) at h in
     record {
@@ -160,20 +159,19 @@ ended_from (r ∷ rest) tasks at g e h = go (eqb refusal 0) refl (λ g' more acc
         let more = length_inserted task_before (task_of at (attr_in r)) tasks in
         subst (Ended tasks at (r ∷ rest)) (sym on)
         (ended_on tasks at r rest _ (subst (λ (k : ℕ). Passed k (attr_in r)) (sym e) p)
-        (next (grown tasks at (attr_in r) g e p) (omega arith) (sym (ap (λ (l : Loaded). l.number) on) ∙ h)))
+        (next (grown tasks at (attr_in r) g e p) (omega arith) (sym (ap (λ (l : Reading). l.number) on) ∙ h)))
     go false z next =
         let some = eqb-false refusal 0 z in
-        absurd (some (sym (ap (λ (l : Loaded). l.number) (read_stop tasks at r rest some)) ∙ h))
+        absurd (some (sym (ap (λ (l : Reading). l.number) (read_stop tasks at r rest some)) ∙ h))
 
 -- the length of an accepted list
 pub accepted_length : (list : List ℕ) → (read_of list).number ≡ 0 → length list % 48 ≡ 0
-unfolding refused_load
 accepted_length list h = go (eqb (length list % 48) 0) refl
   where
     go : (b : Bool) → eqb (length list % 48) 0 ≡ b → length list % 48 ≡ 0
     go true e = eqb-true (length list % 48) 0 e
     go false e =
-        let forty : ◌≡◌ {A = ℕ} 40 0 = sym (ap (λ (l : Loaded). l.number) (read_odd list (eqb-false (length list % 48) 0 e))) ∙ h in
+        let forty : ◌≡◌ {A = ℕ} 40 0 = sym (ap (λ (l : Reading). l.number) (read_odd list (eqb-false (length list % 48) 0 e))) ∙ h in
         absurd (omega arith)
 
 pub read_ended : (list : List ℕ) → (read_of list).number ≡ 0 → Ended [] 0 (records_of list) (read_of list)
@@ -181,15 +179,15 @@ unfolding read_records
 read_ended list h =
     let same = read_whole list (accepted_length list h) in
     subst (Ended [] 0 (records_of list)) (sym same)
-    (ended_from (records_of list) [] 0 growing_start refl (sym (ap (λ (l : Loaded). l.number) same) ∙ h))
+    (ended_from (records_of list) [] 0 growing_start refl (sym (ap (λ (l : Reading). l.number) same) ∙ h))
 
 -- a reading hands back the empty state, or its answer is 0; and its place is at most 64
-record Answered (l : Loaded) : Type 0 where
+record Answered (l : Reading) : Type 0 where
   empty : (l.number ≡ 0) ⊎ (l.state ≡ empty_state)
   place : l.place ≤ 64
 
 answered_at : (rs : List (List ℕ)) (tasks : List Task) (at : ℕ) → Growing tasks → at ≡ length tasks → Answered (read_from tasks at rs)
-unfolding read_from refused_load accepted_load
+unfolding read_from
 answered_at [] tasks at g e = go (eqb (state_of (list_table tasks)).n 0) refl
   where
     go : (b : Bool) → eqb (state_of (list_table tasks)).n 0 ≡ b → Answered (finished_load (state_of (list_table tasks)) at)
@@ -216,7 +214,7 @@ answered_at (r ∷ rest) tasks at g e = go (eqb refusal 0) refl (λ g' more. ans
         subst Answered (sym (read_stop tasks at r rest (eqb-false refusal 0 z))) (record { empty = inr refl; place = omega (arith, g.fits) })
 
 answered_list : (list : List ℕ) → Answered (read_of list)
-unfolding refused_load read_records
+unfolding read_records
 answered_list list = go (eqb (length list % 48) 0) refl
   where
     go : (b : Bool) → eqb (length list % 48) 0 ≡ b → Answered (read_of list)
@@ -238,13 +236,12 @@ refused_empty list h = go (answered_list list).empty
 
 -- the state that reading hands back is sound
 pub read_sound : (list : List ℕ) → Sound (read_of list).state
-unfolding accepted_load
 read_sound list = go (answered_list list).empty
   where
     go : ((read_of list).number ≡ 0) ⊎ ((read_of list).state ≡ empty_state) → Sound (read_of list).state
     go (inl h) =
         let e = read_ended list h in
-        subst Sound (sym (ap (λ (l : Loaded). l.state) e.same))
+        subst Sound (sym (ap (λ (l : Reading). l.state) e.same))
         (state_sound (list_table e.all) (growing_well e.all e.growing e.some) (growing_loaded e.all e.growing))
     go (inr h) = subst Sound (sym h) empty_sound
 
@@ -305,7 +302,7 @@ Follows done (x ∷ rest) = every (earlier x) done ≡ true
 
 follows_on : (done : List Task) (x : Task) (rest : List Task) → ordered task_before (x ∷ rest) ≡ true → Counted (length done) (x ∷ rest)
     → Follows done (x ∷ rest) → Follows (done ++ x ∷ []) rest
-unfolding ordered every earlier
+unfolding ordered earlier
 follows_on done x [] o c f = tt
 follows_on done x (y ∷ rest) o c f =
     let p = period_rises x y (both_left (task_before x y) (ordered task_before (y ∷ rest)) o) in
@@ -327,7 +324,7 @@ ordered_rest x (y ∷ rest) h = both_right (task_before x y) (ordered task_befor
 replayed : (rest done : List Task) → length done + length rest ≤ 64 → 1 ≤ length done + length rest → every task_in_range rest ≡ true
     → ((i : ℕ) → i < length rest → (get_or rest i blank_task).queue ≡ 1) → ordered task_before rest ≡ true → Counted (length done) rest → Follows done rest
     → read_from (map loaded_task done) (length done) (map encode_attr rest) ≡ accepted_load (state_of (list_table (map loaded_task (done ++ rest))))
-unfolding read_from every earlier state_of list_table
+unfolding read_from earlier state_of list_table
 replayed [] done fits some ranges queues order counted follows =
     let n = length-map done loaded_task in
     finished_some (state_of (list_table (map loaded_task done))) (length done) (omega arith)
@@ -361,7 +358,7 @@ pub read_flat : (tasks : List Task) → length tasks ≤ 64 → 1 ≤ length tas
     → ((i : ℕ) → i < length tasks → (get_or tasks i blank_task).queue ≡ 1) → ordered task_before tasks ≡ true
     → ((i : ℕ) → i < length tasks → (get_or tasks i blank_task).number ≡ suc i)
     → read_of (flat encode_attr tasks) ≡ accepted_load (state_of (list_table (map loaded_task tasks)))
-unfolding read_records parts_of every
+unfolding read_records parts_of
 read_flat tasks fits some ranges queues order numbers =
     let list = flat encode_attr tasks in
     let n = length_flat encode_attr 48 length_attr tasks in

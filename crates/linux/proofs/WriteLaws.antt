@@ -1,25 +1,22 @@
 -- The laws of writing a list.
 -- Assumes nothing.
-use Prim.Native.Nat.{ℕ, ◌+◌, ◌*◌, ◌<◌}
+use Prim.Native.Nat.{ℕ, ◌*◌}
 use mathlib.Core.Path.{◌≡◌, refl, sym, ap, ◌∙◌}
 use mathlib.Core.Logic.{◌≢◌}
-use mathlib.Core.Bool.{Bool, true, false, not, ◌||◌}
+use mathlib.Core.Bool.{true, false, not}
 use mathlib.Core.List.{List, [], ◌∷◌}
 use native.Mathlib.Omega.{arith}
 use lib.Dec.{eqb}
-use lib.ListN.{length, get_or, drop, replicate}
-use lib.Seq.{get_or-take}
+use lib.ListN.{length, replicate}
 use borrow.Author.Tests.{eq-eqb, ne_eqb}
 use Rattle.fields.specs.Fields.{bytes_of, put_at}
 use Rattle.fields.specs.Parts.{flat}
 use Rattle.table.specs.declared.Task.{Task}
 use Rattle.table.specs.Sums.{any}
 use Rattle.table.proofs.RefusalLaws.{answered_refused, answered_done, first_of_here, first_of_past, first_of_none}
-use Rattle.table.proofs.SumLaws.{either_right, any_more}
+use Rattle.table.proofs.SumLaws.{either_right}
 use Rattle.executive.specs.declared.state.State.{State}
-use Rattle.executive.specs.Sound.{Sized}
 use Rattle.executive.specs.States.{tasks_of}
-use Rattle.executive.proofs.LookupLaws.{tasks_count}
 use Rattle.linux.specs.Writing.{encode_attr, outside_dp1, no_list, list_number, list_written}
 
 -- 48 zeros, with the fields of a task put into them, are the task's record
@@ -70,29 +67,3 @@ queue_unfit s bytes h = rw h
 pub fits_list : (s : State) (bytes : ℕ) → any outside_dp1 (tasks_of s) ≡ false → bytes ≡ 48 * length (tasks_of s) → no_list s bytes ≡ false
 unfolding no_list
 fits_list s bytes h k = rw (h, eq-eqb bytes (48 * length (tasks_of s)) k)
-
--- each task stands where the state has it
-pub task_here : (s : State) (d : Task) (i : ℕ) → i < s.n → get_or s.tasks i d ≡ get_or (tasks_of s) i d
-unfolding tasks_of
-task_here s d i h = sym (get_or-take s.n s.tasks i d h)
-
--- a turn of the search for a task outside DP1: the task of this turn, and those behind it
-outside_step : (s : State) (i : ℕ) (d : Task) → Sized s → i < s.n
-    → any outside_dp1 (drop i (tasks_of s)) ≡ (outside_dp1 (get_or s.tasks i d) || any outside_dp1 (drop (i + 1) (tasks_of s)))
-outside_step s i d sized here =
-    any_more outside_dp1 (tasks_of s) i d (omega (arith, tasks_count s sized))
-    ∙ ap (λ (t : Task). outside_dp1 t || any outside_dp1 (drop (i + 1) (tasks_of s))) (sym (task_here s d i here))
-
--- one that is in another queue decides
-pub outside_found : (s : State) (i : ℕ) (d : Task) → Sized s → i < s.n → (get_or s.tasks i d).queue ≢ 1
-    → any outside_dp1 (drop i (tasks_of s)) ≡ any outside_dp1 (tasks_of s) → true ≡ any outside_dp1 (tasks_of s)
-unfolding outside_dp1
-outside_found s i d sized here other rest =
-    sym (outside_step s i d sized here ∙ ap (λ (b : Bool). not b || any outside_dp1 (drop (i + 1) (tasks_of s))) (ne_eqb _ 1 other)) ∙ rest
-
--- one in DP1 leaves it to those behind it
-pub outside_on : (s : State) (i : ℕ) (d : Task) → Sized s → i < s.n → (get_or s.tasks i d).queue ≡ 1
-    → any outside_dp1 (drop i (tasks_of s)) ≡ any outside_dp1 (tasks_of s) → any outside_dp1 (drop (i + 1) (tasks_of s)) ≡ any outside_dp1 (tasks_of s)
-unfolding outside_dp1
-outside_on s i d sized here same rest =
-    sym (outside_step s i d sized here ∙ ap (λ (b : Bool). not b || any outside_dp1 (drop (i + 1) (tasks_of s))) (eq-eqb _ 1 same)) ∙ rest

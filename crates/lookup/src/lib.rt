@@ -1,37 +1,37 @@
-// Look-up by number, only among the tasks and semaphores that there are.
+// Look-up by number, among the tasks or the semaphores that there are.
 #![tactic(auto)]
 
-ghost use Rattle.std.specs.Prelude.{◌≡◌, ◌≤◌, length, take};
-ghost use Rattle.table.specs.Places.{task_place, sem_place};
+ghost use Rattle.std.specs.Prelude.{◌≡◌, ℕ, ◌==◌, position};
 
-use table::{Found, Sem, Task};
+use table::{Sem, Task};
 
-// The position of a task's number among the first n entries.
-pub fn task_place(tasks: [Task; 64], n: usize, number: u16) -> Found
-    requires { (n ≤ 64) × (n ≤ length tasks) }
-    ensures { result ≡ task_place (take n tasks) number }
-{
-    let mut i: usize = 0;
-    while i < n {
-        if tasks[i].number == number {
-            return Found::At(i);
-        }
-        i += 1;
-    }
-    Found::Nothing
+// An entry of the table that has a number.
+pub trait Numbered {
+    ghost number_of: { Self → ℕ };
+
+    fn number(&self) -> u16
+        ensures { result ≡ number_of self.now };
 }
 
-// The place of a semaphore's number among the first m entries.
-pub fn sem_place(sems: [Sem; 16], m: usize, number: u16) -> Found
-    requires { (m ≤ 16) × (m ≤ length sems) }
-    ensures { result ≡ sem_place (take m sems) number }
-{
-    let mut k: usize = 0;
-    while k < m {
-        if sems[k].number == number {
-            return Found::At(k);
-        }
-        k += 1;
+impl Numbered for Task {
+    ghost number_of = { λ t. t.number };
+
+    fn number(&self) -> u16 {
+        self.number
     }
-    Found::Nothing
+}
+
+impl Numbered for Sem {
+    ghost number_of = { λ s. s.number };
+
+    fn number(&self) -> u16 {
+        self.number
+    }
+}
+
+// The place of the first entry with this number.
+pub fn place<T: Numbered>(entries: &[T], number: u16) -> Option<usize>
+    ensures { result ≡ position (λ x. T.number_of x == number) entries.now }
+{
+    entries.iter().position(|x| x.number() == number)
 }

@@ -1,6 +1,6 @@
 -- The parts that the boundary writes, byte by byte.
 -- Assumes nothing.
-use Prim.Native.Nat.{ℕ, zero, suc, ◌+◌, ◌-◌, ◌≤◌, ◌<◌}
+use Prim.Native.Nat.{ℕ, zero, suc, ◌+◌, ◌-◌, ◌/◌, ◌%◌, ◌≤◌, ◌<◌}
 use mathlib.Core.Path.{◌≡◌, refl, sym, ap, ◌∙◌}
 use mathlib.Core.List.{List, [], ◌∷◌, ◌++◌, append_assoc, append-nil}
 use native.Mathlib.Nat.{sub-zero}
@@ -8,11 +8,13 @@ use native.Mathlib.Numerals.{add-one}
 use native.Mathlib.Omega.{arith}
 use lib.ListN.{length, get_or, take, drop, replicate, length-replicate}
 use lib.Seq.{take-suc, take_all}
+use Rattle.std.specs.Int.{bytes_low_first}
 use Rattle.fields.specs.Fields.{bytes_of, put_at}
+use Rattle.fields.proofs.ByteLaws.{std_bytes}
 use Rattle.lines.specs.Lines.{Put}
 use Rattle.lines.proofs.PutLaws.{put_more}
 use Rattle.table.specs.declared.Task.{Task}
-use Rattle.executive.specs.declared.standing.Stands.{Stands}
+use Rattle.executive.specs.Calls.{Stands}
 use Rattle.charges.specs.declared.Counts.{Counts}
 use Rattle.charges.specs.Charges.{charge_by}
 use Rattle.rack.specs.Boundary.{head_bytes, entry_bytes, entries_by, played_part}
@@ -21,6 +23,15 @@ use Rattle.rack.specs.Boundary.{head_bytes, entry_bytes, entries_by, played_part
 pub eight_bytes : (value : ℕ) → put_at 8 (replicate 8 0) 0 value ≡ bytes_of 8 value
 unfolding put_at bytes_of
 eight_bytes value = refl
+
+-- the lowest two bytes of a number, as std gives its bytes
+pub low_byte : (w n : ℕ) (l : List ℕ) → l ≡ bytes_low_first 0 (suc w) n → get_or l 0 0 ≡ n % 256
+unfolding bytes_of
+low_byte w n l h = ap (λ (b : List ℕ). get_or b 0 0) (h ∙ std_bytes (suc w) n)
+
+pub next_byte : (w n : ℕ) (l : List ℕ) → l ≡ bytes_low_first 0 (suc (suc w)) n → get_or l 1 0 ≡ n / 256 % 256
+unfolding bytes_of
+next_byte w n l h = ap (λ (b : List ℕ). get_or b 1 0) (h ∙ std_bytes (suc (suc w)) n)
 
 pub entry_long : (number queue charge : ℕ) → length (entry_bytes number queue charge) ≡ 16
 unfolding entry_bytes bytes_of

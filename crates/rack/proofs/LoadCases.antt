@@ -2,14 +2,16 @@
 -- Assumes nothing.
 use Prim.Native.Nat.{ℕ, ◌-◌, ◌≤◌, ◌<◌}
 use mathlib.Core.Path.{◌≡◌, sym, ap, subst, ◌∙◌}
-use mathlib.Core.Logic.{◌≢◌}
-use mathlib.Core.Bool.{Bool, cond}
 use mathlib.Core.List.{List, ◌++◌}
 use native.Mathlib.Nat.{zero-add}
 use lib.ListN.{length, replicate}
 use lib.Seq.{sets}
-use borrow.Author.Tests.{lt-ltb, le-ltb, eq-eqb, ne_eqb}
-use Rattle.executive.specs.declared.loaded.Loaded.{Loaded}
+use borrow.Author.Tests.{lt-ltb, le-ltb}
+use Rattle.std.specs.Prelude.{Ok, Err}
+use Rattle.table.specs.Refusals.{number_of}
+use Rattle.table.proofs.RefusalLaws.{number_not_zero}
+use Rattle.executive.specs.declared.loaded.Refused.{Refused}
+use Rattle.executive.specs.Reading.{Reading, reading_by}
 use Rattle.image.specs.Loading.{load_of}
 use Rattle.lines.specs.Lines.{Put}
 use Rattle.lines.proofs.PutLaws.{put_more}
@@ -20,36 +22,34 @@ use Rattle.judging.specs.Verdicts.{verdict_of}
 use Rattle.rack.specs.Boundary.{head_bytes, entries_bytes, accepted_bytes, judged_bytes, judged_all, Judged, ReadThenWritten}
 
 -- what comes of a reading, refused or not
-module _ (read l : Loaded) (refusal : Loaded → ℕ) (write_by : State → ℕ → ℕ) (leaves : State → List ℕ → List ℕ) (before : List ℕ) (e : l ≡ read) where
-  pub read_refused : l.number ≢ 0 → (result : ℕ) → result ≡ refusal l → ReadThenWritten read (refusal read) write_by leaves before before result
-  read_refused h result r =
-      subst (λ (x : Loaded). ReadThenWritten x (refusal x) write_by leaves before before result) e
-      (record { contents = rw (ne_eqb l.number 0 h); number = rw (ne_eqb l.number 0 h) r })
+module _ (read : Reading) (refusal : Reading → ℕ) (write_by : State → ℕ → ℕ) (leaves : State → List ℕ → List ℕ) (before : List ℕ) (s : State) where
+  pub read_refused : (r : Refused) → reading_by s (Err r) ≡ read → (result : ℕ) → result ≡ refusal (reading_by s (Err r))
+      → ReadThenWritten read (refusal read) write_by leaves before before result
+  read_refused r e result h =
+      subst (λ (x : Reading). ReadThenWritten x (refusal x) write_by leaves before before result) e
+      (record { contents = rw (number_not_zero r.refusal); number = rw (number_not_zero r.refusal) h })
 
-  pub read_written : l.number ≡ 0 → (after : List ℕ) (result : ℕ) → result ≡ write_by l.state (length before) → after ≡ leaves l.state before
+  pub read_written : reading_by s (Ok tt) ≡ read → (after : List ℕ) (result : ℕ) → result ≡ write_by s (length before) → after ≡ leaves s before
       → ReadThenWritten read (refusal read) write_by leaves before after result
-  read_written h after result n c =
-      subst (λ (x : Loaded). ReadThenWritten x (refusal x) write_by leaves before after result) e
-      (record { contents = rw (eq-eqb l.number 0 h) c; number = rw (eq-eqb l.number 0 h) n })
+  read_written e after result n c =
+      subst (λ (x : Reading). ReadThenWritten x (refusal x) write_by leaves before after result) e (record { contents = c; number = n })
 
 -- a buffer that is too short is left as it was
 pub judged_short : (image before : List ℕ) → length before < 1032 → Judged image before before 0
 judged_short image before h = record { contents = rw (lt-ltb (length before) 1032 h); number = rw (lt-ltb (length before) 1032 h) }
 
 -- the bytes of a load that is refused, and of one that is not
-pub judged_refused : (l : Loaded) → l.number ≢ 0 → judged_bytes l ≡ head_bytes l.number 0 l.place 0 0
+pub judged_refused : (s : State) (r : Refused) → judged_bytes (reading_by s (Err r)) ≡ head_bytes (number_of r.refusal) 0 r.place 0 0
 unfolding judged_bytes
-judged_refused l h = rw (ne_eqb l.number 0 h)
+judged_refused s r = rw (number_not_zero r.refusal)
 
-pub judged_accepted : (l : Loaded) (v : Verdict) → l.number ≡ 0 → v ≡ verdict_of (tasks_of l.state) l.state.board
-    → judged_bytes l ≡ head_bytes l.number v.number l.place v.task l.state.n ++ entries_bytes (tasks_of l.state) l.state.board
+pub judged_accepted : (s : State) (v : Verdict) → v ≡ verdict_of (tasks_of s) s.board
+    → judged_bytes (reading_by s (Ok tt)) ≡ head_bytes 0 v.number 0 v.task s.n ++ entries_bytes (tasks_of s) s.board
 unfolding judged_bytes accepted_bytes
-judged_accepted l v h e =
-    ap (λ (b : Bool). cond b (accepted_bytes l (verdict_of (tasks_of l.state) l.state.board)) (head_bytes l.number 0 l.place 0 0)) (eq-eqb l.number 0 h)
-    ∙ ap (accepted_bytes l) (sym e)
+judged_accepted s v e = ap (accepted_bytes (reading_by s (Ok tt))) (sym e)
 
 -- the bytes put, and zeros behind them
-pub judged_put : (image before mid after : List ℕ) (l : Loaded) (bytes : List ℕ) (end : ℕ) → 1032 ≤ length before → l ≡ load_of image → judged_bytes l ≡ bytes
+pub judged_put : (image before mid after : List ℕ) (l : Reading) (bytes : List ℕ) (end : ℕ) → 1032 ≤ length before → l ≡ load_of image → judged_bytes l ≡ bytes
     → Put before 0 bytes mid end → Put mid end (replicate (1032 - end) 0) after 1032 → Judged image before after end
 unfolding judged_all
 judged_put image before mid after l bytes end h e f p q =

@@ -2,7 +2,7 @@
 -- Assumes nothing.
 use Prim.Native.Nat.{ℕ, suc, ◌+◌, ◌-◌, ◌*◌, ◌/◌, ◌%◌, ◌≤◌, ◌<◌}
 use mathlib.Core.Path.{◌≡◌, refl, sym, ap, subst, ◌∙◌}
-use mathlib.Core.Logic.{◌⊎◌, inl, inr, ⊎_elim}
+use mathlib.Core.Logic.{inl, inr, ⊎_elim}
 use mathlib.Core.Bool.{Bool, true, false, cond}
 use mathlib.Core.List.{List, [], ◌++◌, append_assoc, append-nil}
 use native.Mathlib.Nat.{sub-zero}
@@ -10,17 +10,18 @@ use native.Mathlib.Omega.{arith}
 use lib.Dec.{eqb}
 use lib.ListN.{length, get_or}
 use lib.Seq.{sets}
-use borrow.Author.Tests.{lt-ltb, le-ltb, eq-eqb, ne_eqb}
+use borrow.Author.Tests.{eqb-false, lt-ltb, le-ltb, eq-eqb, ne_eqb}
 use Rattle.fields.specs.Fields.{read_at}
 use Rattle.lines.specs.Lines.{Put}
 use Rattle.lines.proofs.PutLaws.{put_none, put_more}
 use Rattle.table.proofs.SumLaws.{either_way}
 use Rattle.executive.specs.declared.state.State.{State}
-use Rattle.executive.specs.declared.calls.Moved.{Moved}
 use Rattle.executive.specs.States.{tasks_of, sems_of}
 use Rattle.executive.specs.Sound.{Sound}
 use Rattle.waits.specs.Standing.{number_at, running_of}
 use Rattle.executive.specs.Calls.{
+  Step,
+  Stands,
   moved,
   stands_of,
   release_of,
@@ -50,9 +51,16 @@ use Rattle.kept.proofs.SoundCalls.{
   complete_sound,
   block_sound,
 }
-use Rattle.executive.specs.declared.standing.Stands.{Stands}
 use Rattle.rack.specs.Boundary.{called_by, played_part, part_of, play_from, not_played, Played}
-use Rattle.executive.specs.declared.loaded.Loaded.{Loaded}
+use Rattle.std.specs.Prelude.{Ok, Err, Option, None, Some}
+use Rattle.std.specs.Option.{option_map, unwrap_or}
+use Rattle.table.specs.declared.Task.{Task}
+use Rattle.waits.specs.Waits.{task_at}
+use Rattle.table.specs.declared.refusals.Refusal.{Refusal}
+use Rattle.table.specs.Refusals.{number_of}
+use Rattle.table.proofs.RefusalLaws.{number_not_zero, number_not_waits}
+use Rattle.executive.specs.declared.loaded.Refused.{Refused}
+use Rattle.executive.specs.Reading.{Reading, reading_by}
 use Rattle.image.specs.Loading.{load_of}
 use Rattle.rack.proofs.ByteParts.{part_long}
 
@@ -95,10 +103,10 @@ module _ (s : State) (script : List ℕ) (at : ℕ) where
       rw (ne_eqb x 1 a, ne_eqb x 2 b, ne_eqb x 3 c, ne_eqb x 4 d, ne_eqb x 5 e, ne_eqb x 6 f, ne_eqb x 7 g)
 
 -- a call that is refused hands back the very state, and an unknown one too
-abbrev Kept : State → Moved → Type 0
+abbrev Kept : State → Step → Type 0
 Kept s m = (m.answer ≡ 0 → ⊥) → (m.answer ≡ 90 → ⊥) → m.state ≡ s
 
-kept : (s : State) (m : Moved) → Same s m → Kept s m
+kept : (s : State) (m : Step) → Same s m → Kept s m
 kept s m (inl e) n w = absurd (n e)
 kept s m (inr e) n w = e
 
@@ -115,14 +123,15 @@ refused_kept s script at =
     (either_way (Kept s) (eqb x 6) _ _ (kept s _ (complete_same s))
     (either_way (Kept s) (eqb x 7) _ _ (kept s _ (block_same s)) (λ n w. refl)))))))
 
--- the same of what a call handed back
-pub kept_by : (s : State) (script : List ℕ) (at : ℕ) (r : Moved) → r ≡ called_by s script at → (((r.answer ≡ 0) ⊎ (r.answer ≡ 90)) → ⊥)
+-- the same of a refusal's number
+pub kept_by : (s : State) (script : List ℕ) (at : ℕ) (t : State) (r : Refusal) → moved t (number_of r) ≡ called_by s script at
     → s ≡ (called_by s script at).state
-kept_by s script at r e n =
-    sym
-    (refused_kept s script at (λ h. n (inl (ap (λ (m : Moved). m.answer) e ∙ h))) (λ h. n (inr (ap (λ (m : Moved). m.answer) e ∙ h))))
+unfolding moved
+kept_by s script at t r e =
+    let answer = ap (λ (m : Step). m.answer) e in
+    sym (refused_kept s script at (λ h. eqb-false (number_of r) 0 (number_not_zero r) (answer ∙ h)) (λ h. eqb-false (number_of r) 90 (number_not_waits r) (answer ∙ h)))
 
-choose_sound : (b : Bool) (x y : Moved) → Sound x.state → Sound y.state → Sound (cond b x y).state
+choose_sound : (b : Bool) (x y : Step) → Sound x.state → Sound y.state → Sound (cond b x y).state
 choose_sound true x y h k = h
 choose_sound false x y h k = k
 
@@ -139,7 +148,7 @@ called_sound s script at h =
     (choose_sound (eqb x 6) _ _ (complete_sound s h)
     (choose_sound (eqb x 7) _ _ (block_sound s h) h))))))
 
-part_of_length : (script : List ℕ) (at : ℕ) (m : Moved) → length (part_of script at m) ≡ 32
+part_of_length : (script : List ℕ) (at : ℕ) (m : Step) → length (part_of script at m) ≡ 32
 unfolding part_of
 part_of_length script at m =
     part_long m.answer (number_at (tasks_of m.state) (running_of (tasks_of m.state) (sems_of m.state))) (stands_of m.state (read_at 2 script (at + 4)))
@@ -189,18 +198,26 @@ playing_on from script count before after next state state' i end p h same put =
           ∙ (ap (λ (k : ℕ). p.done ++ play_from state script (i * 16) k) (sym more) ∙ p.whole));
     }
 
+-- the number of the task that runs, or 0
+named : (tasks : List Task) (runs : Option ℕ) → unwrap_or (option_map (λ i. (task_at tasks i).number) runs) 0 ≡ number_at tasks runs
+unfolding number_at
+named tasks None = refl
+named tasks (Some i) = refl
+
 -- the part of a record, from what was asked of the state after the call
-pub part_put : (s : State) (script : List ℕ) (at : ℕ) (state : State) (r : Moved) (runs : ℕ) (stands : Stands) (ask : ℕ)
-    → state ≡ (called_by s script at).state → r ≡ called_by s script at
-    → runs ≡ number_at (tasks_of state) (running_of (tasks_of state) (sems_of state)) → stands ≡ stands_of state ask → ask ≡ read_at 2 script (at + 4)
-    → {a b : List ℕ} {place end : ℕ} → Put a place (played_part r.answer runs stands) b end → Put a place (part_of script at (called_by s script at)) b end
+pub part_put : (s : State) (script : List ℕ) (at : ℕ) (state : State) (answer : ℕ) (runs : Option ℕ) (stands : Stands) (ask : ℕ)
+    → state ≡ (called_by s script at).state → answer ≡ (called_by s script at).answer
+    → runs ≡ option_map (λ i. (task_at (tasks_of state) i).number) (running_of (tasks_of state) (sems_of state)) → stands ≡ stands_of state ask
+    → ask ≡ read_at 2 script (at + 4) → {a b : List ℕ} {place end : ℕ} → Put a place (played_part answer (unwrap_or runs 0) stands) b end
+    → Put a place (part_of script at (called_by s script at)) b end
 unfolding part_of
-part_put s script at state r runs stands ask e f g h k p =
+part_put s script at state answer runs stands ask e f g h k p =
     let m = called_by s script at in
-    let running : runs ≡ number_at (tasks_of m.state) (running_of (tasks_of m.state) (sems_of m.state)) =
-    g ∙ ap (λ (x : State). number_at (tasks_of x) (running_of (tasks_of x) (sems_of x))) e in
+    let running : unwrap_or runs 0 ≡ number_at (tasks_of m.state) (running_of (tasks_of m.state) (sems_of m.state)) =
+    ap (λ (o : Option ℕ). unwrap_or o 0) g
+    ∙ (named (tasks_of state) (running_of (tasks_of state) (sems_of state)) ∙ ap (λ (x : State). number_at (tasks_of x) (running_of (tasks_of x) (sems_of x))) e) in
     let standing : stands ≡ stands_of m.state (read_at 2 script (at + 4)) = h ∙ (ap (λ (x : State). stands_of x ask) e ∙ ap (stands_of m.state) k) in
-    rw (ap (λ (x : Moved). x.answer) f, running, standing) at p
+    rw (f, running, standing) at p
 
 -- at the end all is put
 pub playing_end : (from : State) (script : List ℕ) (count : ℕ) (before after : List ℕ) (state : State) (i : ℕ)
@@ -225,30 +242,26 @@ pub played_short : (image script out : List ℕ) → length script % 16 ≡ 0 �
 unfolding not_played
 played_short image script out h k = played_not image script out (rw (eq-eqb (length script % 16) 0 h, lt-ltb (length out / 32) (length script / 16) k))
 
-pub played_refused : (image script out : List ℕ) (l : Loaded) → length script % 16 ≡ 0 → length script / 16 ≤ length out / 32 → l ≡ load_of image
-    → (l.number ≡ 0 → ⊥) → Played image script out out 0
+pub played_refused : (image script out : List ℕ) (s : State) (r : Refused) → length script % 16 ≡ 0 → length script / 16 ≤ length out / 32
+    → reading_by s (Err r) ≡ load_of image → Played image script out out 0
 unfolding not_played
-played_refused image script out l h k e n =
+played_refused image script out s r h k e =
     played_not image script out
     (rw (
       eq-eqb (length script % 16) 0 h,
       le-ltb (length out / 32) (length script / 16) k,
-      ne_eqb (load_of image).number 0 (λ z. n (ap (λ (x : Loaded). x.number) e ∙ z)),
+      ← e,
+      number_not_zero r.refusal,
     ))
 
 -- else it is played
-pub played_all : (image script out after : List ℕ) (l : Loaded) → length script % 16 ≡ 0 → length script / 16 ≤ length out / 32 → l ≡ load_of image
-    → l.number ≡ 0 → Put out 0 (play_from l.state script 0 (length script / 16)) after (length script / 16 * 32)
+pub played_all : (image script out after : List ℕ) (s : State) → length script % 16 ≡ 0 → length script / 16 ≤ length out / 32
+    → reading_by s (Ok tt) ≡ load_of image → Put out 0 (play_from s script 0 (length script / 16)) after (length script / 16 * 32)
     → Played image script out after (length script / 16)
 unfolding not_played
-played_all image script out after l h k e n p =
-    let no : not_played image script out ≡ false =
-    rw (
-      eq-eqb (length script % 16) 0 h,
-      le-ltb (length out / 32) (length script / 16) k,
-      eq-eqb (load_of image).number 0 (sym (ap (λ (x : Loaded). x.number) e) ∙ n),
-    ) in
+played_all image script out after s h k e p =
+    let no : not_played image script out ≡ false = rw (eq-eqb (length script % 16) 0 h, le-ltb (length out / 32) (length script / 16) k, ← e) in
     record {
-      contents = rw no (p.contents ∙ ap (λ (x : Loaded). sets out 0 (play_from x.state script 0 (length script / 16))) e);
+      contents = rw no (p.contents ∙ ap (λ (x : Reading). sets out 0 (play_from x.state script 0 (length script / 16))) e);
       number = rw no;
     }

@@ -1,15 +1,17 @@
 -- The boundary for other languages, as include/rack.h describes it: bytes in, bytes out, all numbers little-endian, bytes not named 0.
-use Rattle.std.specs.Prelude.{ℕ, zero, suc, ◌+◌, ◌-◌, ◌*◌, ◌/◌, ◌%◌, ◌≡◌, Bool, cond, not, ◌||◌, List, [], ◌∷◌, ◌++◌, eqb, ltb, length, get_or, replicate}
+use Rattle.std.specs.Prelude.{ℕ, zero, suc, ◌+◌, ◌-◌, ◌*◌, ◌/◌, ◌%◌, ◌≡◌, Bool, cond, not, ◌||◌, List, [], ◌∷◌, ◌++◌, eqb, ltb, length, get_or, replicate, Option, None, Some}
 use Rattle.std.proofs.lemmas.List.Edits.{sets}
 use Rattle.fields.specs.Fields.{bytes_of, read_at}
 use Rattle.table.specs.declared.Board.{Board}
 use Rattle.table.specs.declared.Task.{Task}
 use Rattle.executive.specs.declared.state.State.{State}
 use Rattle.executive.specs.declared.calls.Moved.{Moved}
-use Rattle.executive.specs.declared.standing.Stands.{Stands}
 use Rattle.executive.specs.States.{tasks_of, sems_of}
 use Rattle.waits.specs.Standing.{number_at, running_of}
 use Rattle.executive.specs.Calls.{
+  Step,
+  Stands,
+  step_of,
   moved,
   stands_of,
   release_of,
@@ -24,7 +26,7 @@ use Rattle.charges.specs.declared.Counts.{Counts}
 use Rattle.charges.specs.Charges.{counts_of, charge_by}
 use Rattle.judging.specs.declared.Verdict.{Verdict}
 use Rattle.judging.specs.Verdicts.{verdict_of}
-use Rattle.executive.specs.declared.loaded.Loaded.{Loaded}
+use Rattle.executive.specs.Reading.{Reading}
 use Rattle.image.specs.Loading.{load_of}
 use Rattle.image.specs.Writing.{write_number, written}
 use Rattle.linux.specs.Lists.{read_of}
@@ -46,16 +48,16 @@ unfoldable pub entries_bytes : List Task → Board → List ℕ
 entries_bytes tasks board = entries_by (counts_of tasks board) tasks
 
 -- the bytes of a load that was judged, and of one that was refused
-unfoldable pub accepted_bytes : Loaded → Verdict → List ℕ
+unfoldable pub accepted_bytes : Reading → Verdict → List ℕ
 accepted_bytes l v =
     head_bytes l.number v.number l.place v.task l.state.n ++ entries_bytes (tasks_of l.state) l.state.board
 
-unfoldable pub judged_bytes : Loaded → List ℕ
+unfoldable pub judged_bytes : Reading → List ℕ
 judged_bytes l =
     cond (eqb l.number 0) (accepted_bytes l (verdict_of (tasks_of l.state) l.state.board)) (head_bytes l.number 0 l.place 0 0)
 
 -- the rest up to 1,032 becomes 0
-unfoldable pub judged_all : Loaded → List ℕ
+unfoldable pub judged_all : Reading → List ℕ
 judged_all l = judged_bytes l ++ replicate (1032 - length (judged_bytes l)) 0
 
 -- an `out` below 1,032 bytes is left as it was, and 0 comes back
@@ -65,7 +67,7 @@ pub record Judged (image before after : List ℕ) (result : ℕ) : Type 0 where
 
 -- a table that was read is written to a buffer, and the write's number comes back; a refused reading leaves the buffer as it was, and tells
 -- its refusal
-pub record ReadThenWritten (read : Loaded) (refusal : ℕ) (write_by : State → ℕ → ℕ) (leaves : State → List ℕ → List ℕ) (before after : List ℕ)
+pub record ReadThenWritten (read : Reading) (refusal : ℕ) (write_by : State → ℕ → ℕ) (leaves : State → List ℕ → List ℕ) (before after : List ℕ)
     (result : ℕ) : Type 0 where
   pub contents : after ≡ cond (eqb read.number 0) (leaves read.state before) before
   pub number : result ≡ cond (eqb read.number 0) (write_by read.state (length before)) refusal
@@ -75,7 +77,7 @@ abbrev pub Rewritten : List ℕ → List ℕ → List ℕ → ℕ → Type 0
 Rewritten image = ReadThenWritten (load_of image) (load_of image).number write_number written
 
 -- a refusal and its place in one number
-unfoldable pub told : Loaded → ℕ
+unfoldable pub told : Reading → ℕ
 told l = l.number + 256 * l.place
 
 -- rack_import: a refused list returns number + 256 * place; else its table is written as an image
@@ -87,7 +89,7 @@ abbrev pub Exported : List ℕ → List ℕ → List ℕ → ℕ → Type 0
 Exported image = ReadThenWritten (load_of image) (told (load_of image)) list_number list_written
 
 -- rack_play: the call that the record of 16 bytes at a place names: 0 the call, 2..3 a task's or semaphore's number, 8..15 a time
-unfoldable pub called_by : State → List ℕ → ℕ → Moved
+unfoldable pub called_by : State → List ℕ → ℕ → Step
 called_by s script at =
     let call = get_or script at 0 in
     let number = read_at 2 script (at + 2) in
@@ -100,6 +102,11 @@ called_by s script at =
     (cond (eqb call 7) (block_of s)
     (moved s 255)))))))
 
+-- what the code made of a record: a call, or none, which is told as 255
+abbrev pub tried : State → Option Moved → Step
+tried s None = moved s 255
+tried s (Some m) = step_of m
+
 -- 32 bytes for each record: 0 the answer, 2..3 the running task after the call, 4 the number of the standing's answer, 5 its queue, 6 its
 -- position, 8..15 its deadline
 unfoldable pub played_part : ℕ → ℕ → Stands → List ℕ
@@ -108,7 +115,7 @@ played_part answer running stands =
     ++ (stands.number ∷ stands.queue ∷ stands.position ∷ 0 ∷ (bytes_of 8 stands.deadline ++ replicate 16 0)))
 
 -- what is answered beside the state after the call; 4..5 of the record is a task to ask about
-unfoldable pub part_of : List ℕ → ℕ → Moved → List ℕ
+unfoldable pub part_of : List ℕ → ℕ → Step → List ℕ
 part_of script at m =
     played_part m.answer (number_at (tasks_of m.state) (running_of (tasks_of m.state) (sems_of m.state)))
     (stands_of m.state (read_at 2 script (at + 4)))

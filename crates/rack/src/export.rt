@@ -2,16 +2,14 @@
 ghost use Rattle.rack.specs.Boundary.{Exported};
 
 use crate::refusals;
-use table::numbers;
+use table::refusals::told;
 
 pub fn rack_export(image: &[u8], list: &mut [u8]) -> u64
     ensures { Exported image.now list.old list.new result }
 {
     let loaded = image::load::load(image);
-    let number = loaded.number;
-    if number != numbers::DONE {
-        return refusals::told(number, loaded.place);
+    match loaded.answer {
+        Err(refused) => refusals::with_place(refused),
+        Ok(()) => told(linux::write::write(loaded.state, list)) as u64,
     }
-    let state = loaded.state;
-    linux::write::write(state, list) as u64
 }

@@ -1,17 +1,16 @@
-// Reads a list from a Linux rig and writes its table as an image.
+// Reads a list from a Linux rig and writes its table as an image. The three that read and then write are one `match`
+// each: a function over all three would take the reading, how a refusal is told and the writing, and say no more.
 ghost use Rattle.rack.specs.Boundary.{Imported};
 
 use crate::refusals;
-use table::numbers;
+use table::refusals::told;
 
 pub fn rack_import(list: &[u8], buf: &mut [u8]) -> u64
     ensures { Imported list.now buf.old buf.new result }
 {
     let read = linux::read::read(list);
-    let number = read.number;
-    if number != numbers::DONE {
-        return refusals::told(number, read.place);
+    match read.answer {
+        Err(refused) => refusals::with_place(refused),
+        Ok(()) => told(image::write::write(read.state, buf)) as u64,
     }
-    let state = read.state;
-    image::write::write(state, buf) as u64
 }

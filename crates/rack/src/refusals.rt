@@ -1,9 +1,12 @@
-// A refusal and its place in one number.
+// A refusal and its place in one number, for C.
 ghost use Rattle.std.specs.Prelude.{◌≡◌, ◌+◌, ◌*◌, ◌≤◌};
+ghost use Rattle.table.specs.Refusals.{number_of};
 
-pub fn told(number: u8, place: usize) -> u64
-    requires { place ≤ 128 }
-    ensures { result ≡ number + 256 * place }
+use executive::loaded::Refused;
+
+pub fn with_place(refused: Refused) -> u64
+    requires { refused.place ≤ 128 }
+    ensures { result ≡ number_of refused.refusal + 256 * refused.place }
 {
-    (number as u64) + 256 * (place as u64)
+    (refused.refusal.number() as u64) + 256 * (refused.place as u64)
 }

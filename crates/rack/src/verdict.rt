@@ -1,14 +1,11 @@
 // Loads and judges an image.
 ghost use Rattle.std.specs.Prelude.{◌≡◌, ◌+◌, ◌-◌, ◌*◌, ◌≤◌, length, replicate};
 ghost use Rattle.lines.specs.Lines.{Put};
-ghost use Rattle.executive.specs.States.{tasks_of};
-ghost use Rattle.executive.specs.Sound.{Sound};
 ghost use Rattle.rack.specs.Boundary.{Judged, head_bytes, entry_bytes, entries_bytes};
 
 use crate::rows;
 use charges::Counts;
-use executive::state::State;
-use table::numbers;
+use table::{Board, Task};
 
 // What judging writes: 8 bytes, and 16 for each of 64 tasks.
 pub const BYTES: usize = 1_032;
@@ -21,62 +18,51 @@ pub fn rack_judge(image: &[u8], out: &mut [u8]) -> u64
         return 0;
     }
     let loaded = image::load::load(image);
-    let place = loaded.place;
-    let number = loaded.number;
-    if number != numbers::DONE {
-        let end = put_head(out, number, 0, place as u64, 0, 0);
+    if let Err(refused) = loaded.answer {
+        let end = put_head(out, refused.refusal.number(), 0, refused.place as u64, 0, 0);
         put_zeros(out, end);
         return end as u64;
     }
     let state = loaded.state;
     let n = state.n;
-    let verdict = judging::judge::judge(state);
-    put_head(
-        out,
-        number,
-        verdict.number,
-        place as u64,
-        verdict.task as u64,
-        n as u64,
-    );
-    let end = put_entries(out, state);
+    let verdict = judging::judge::told(judging::judge::judge(state));
+    put_head(out, 0, verdict.number, 0, verdict.task as u64, n as u64);
+    let end = put_entries(out, &state.tasks[..n], state.board);
     put_zeros(out, end);
     end as u64
 }
 
-// The first 8 bytes: two numbers of one byte and three of two.
+// The first 8 bytes: two numbers of one byte and three of two. This and the functions below write at a place and say
+// where they end, as those of `lines` do, whose promise (`Put`) theirs is; the room is a clause of each.
 fn put_head(out: &mut [u8], number: u8, verdict: u8, place: u64, task: u64, n: u64) -> usize
     requires { 1032 ≤ length out.old }
     ensures { Put out.old 0 (head_bytes number verdict place task n) out.new result }
 {
+    let [place_low, place_high, ..] = place.to_le_bytes();
+    let [task_low, task_high, ..] = task.to_le_bytes();
+    let [n_low, n_high, ..] = n.to_le_bytes();
     let head = [
-        number,
-        verdict,
-        (place % 256) as u8,
-        (place / 256 % 256) as u8,
-        (task % 256) as u8,
-        (task / 256 % 256) as u8,
-        (n % 256) as u8,
-        (n / 256 % 256) as u8,
+        number, verdict, place_low, place_high, task_low, task_high, n_low, n_high,
     ];
     lines::put_word(out, 0, &head)
 }
 
-// An entry of 16 bytes for each task.
-fn put_entries(out: &mut [u8], state: State) -> usize
-    requires { Sound state × (1032 ≤ length out.old) }
-    ensures { Put out.old 8 (entries_bytes (tasks_of state) state.board) out.new result
-        × (result ≡ 8 + 16 * state.n) }
+// An entry of 16 bytes for each task, at most 64, as in `charges`.
+fn put_entries(out: &mut [u8], tasks: &[Task], board: Board) -> usize
+    requires { (length tasks.now ≤ 64) × (1032 ≤ length out.old) }
+    ensures { Put out.old 8 (entries_bytes tasks.now board) out.new result
+        × (result ≡ 8 + 16 * length tasks.now) }
 {
-    let tasks = state.tasks;
-    let n = state.n;
-    let counts = Counts::of(tasks, n, state.board);
+    let counts = Counts::of(tasks, board);
     let mut at: usize = 8;
-    let mut i: usize = 0;
-    while i < n {
-        let task = tasks[i];
-        at = put_entry(out, at, task.number as u64, task.queue, counts.charge(task));
-        i += 1;
+    for task in tasks {
+        at = put_entry(
+            out,
+            at,
+            task.number as u64,
+            task.queue,
+            counts.charge(*task),
+        );
     }
     at
 }
@@ -86,16 +72,8 @@ fn put_entry(out: &mut [u8], at: usize, number: u64, queue: u8, charge: u64) -> 
     requires { at + 16 ≤ length out.old }
     ensures { Put out.old at (entry_bytes number queue charge) out.new result }
 {
-    let front = [
-        (number % 256) as u8,
-        (number / 256 % 256) as u8,
-        queue,
-        0,
-        0,
-        0,
-        0,
-        0,
-    ];
+    let [low, high, ..] = number.to_le_bytes();
+    let front = [low, high, queue, 0, 0, 0, 0, 0];
     rows::put_row(out, at, front, charge)
 }
 

@@ -17,7 +17,8 @@ fn main(rt: HostRuntime) -> io::Result<()> {
 }
 
 // Reads until the buffer is full or the input ends, and says how many bytes it put at the buffer's start. What the input
-// has beyond these is left unread.
+// has beyond these is left unread. Each program that reads has this function: a library's public function would owe the
+// statement that its contract allows one result, and reading has more.
 fn read_full<R: Read>(input: &mut R, buf: &mut [u8]) -> io::Result<usize>
     ensures inside { IfOk result (λ n. n ≤ length buf.new) }
     ensures bytes { IfOk result (λ n. Consumes (R.remaining input.old) (R.remaining input.new) (take n buf.new)) }

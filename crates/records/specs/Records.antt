@@ -1,14 +1,26 @@
 -- One record of 32 bytes (01, "The image": the table of kinds and fields).
-use Rattle.std.specs.Prelude.{ℕ, Bool, cond, ◌&&◌, List, ◌∷◌, ◌++◌, eqb, get_or, drop, replicate}
+use Rattle.std.specs.Prelude.{ℕ, Bool, cond, ◌&&◌, List, ◌∷◌, ◌++◌, eqb, get_or, drop, replicate, Result, Ok, Err, None}
 use Rattle.table.specs.declared.Task.{Task}
 use Rattle.table.specs.declared.Sem.{Sem}
 use Rattle.table.specs.declared.Board.{Board}
 use Rattle.table.specs.declared.Status.TheVariants.{Idle}
-use Rattle.table.specs.declared.Holder.TheVariants.{Free}
 use Rattle.table.specs.WellFormed.{task_in_range, sem_in_range, board_in_range}
 use Rattle.fields.specs.Fields.{bytes_of, read_at, all_are}
-use Rattle.records.specs.declared.Decoded.{Decoded}
-use Rattle.records.specs.declared.Decoded.TheVariants.{Erased, TaskRecord, BoardRecord, SemRecord, Refused}
+use Rattle.table.specs.declared.refusals.Refusal.{Refusal}
+use Rattle.table.specs.declared.refusals.Refusal.TheVariants.{UnknownKind, OutOfRange}
+use Rattle.records.specs.declared.Record.{Record}
+use Rattle.records.specs.declared.Record.TheVariants.{Erased, Task as TaskRecord, Board as BoardRecord, Sem as SemRecord}
+use Rattle.records.specs.declared.Kind.{Kind}
+use Rattle.records.specs.declared.Kind.TheVariants.{Task as TaskKind, Board as BoardKind, Sem as SemKind, Erased as ErasedKind}
+
+-- 01, "The image", the table of kinds; 255 is the first byte of an erased record. "Numbers that come back", 2: unknown kind
+abbrev pub kind_of : ℕ → Result Kind Refusal
+kind_of byte =
+    cond (eqb byte 1) (Ok TaskKind)
+    (cond (eqb byte 2) (Ok BoardKind)
+    (cond (eqb byte 3) (Ok SemKind)
+    (cond (eqb byte 255) (Ok ErasedKind)
+    (Err UnknownKind))))
 
 -- kind 1: byte 1 queue; 2..3 number; 4..7 period; 8..11 cost; 12..15 deadline (02, a)). All tasks are idle after loading, with deadline 0 (01, "Dispatch")
 unfoldable pub task_in : List ℕ → Task
@@ -40,32 +52,32 @@ board_in r =
 
 -- kind 3: 2..3 number. No semaphore is held after loading
 unfoldable pub sem_in : List ℕ → Sem
-sem_in r = record { number = read_at 2 r 2; holder = Free }
+sem_in r = record { number = read_at 2 r 2; holder = None }
 
 -- 01, "Numbers that come back", 4: a zero byte not zero, or a field out of its range
-unfoldable pub unless_out_of_range : Bool → Decoded → Decoded
-unless_out_of_range fits entry = cond fits entry (Refused 4)
+abbrev pub unless_out_of_range : {A : Type 0} → Bool → A → Result A Refusal
+unless_out_of_range fits said = cond fits (Ok said) (Err OutOfRange)
 
 -- kind 1: 16..31 zero
-unfoldable pub task_decoded : List ℕ → Decoded
+unfoldable pub task_decoded : List ℕ → Result Record Refusal
 task_decoded r = unless_out_of_range (task_in_range (task_in r) && all_are 0 (drop 16 r)) (TaskRecord (task_in r))
 
 -- kind 2: byte 1 zero; 20..31 zero
-unfoldable pub board_decoded : List ℕ → Decoded
+unfoldable pub board_decoded : List ℕ → Result Record Refusal
 board_decoded r = unless_out_of_range (eqb (get_or r 1 0) 0 && board_in_range (board_in r) && all_are 0 (drop 20 r)) (BoardRecord (board_in r))
 
 -- kind 3: byte 1 zero; 4..31 zero
-unfoldable pub sem_decoded : List ℕ → Decoded
+unfoldable pub sem_decoded : List ℕ → Result Record Refusal
 sem_decoded r = unless_out_of_range (eqb (get_or r 1 0) 0 && sem_in_range (sem_in r) && all_are 0 (drop 4 r)) (SemRecord (sem_in r))
 
 -- 01, "The image": a record of thirty-two bytes 255 is erased; the first byte of any other record says its kind. Unknown kinds: 2
-unfoldable pub decoded : List ℕ → Decoded
+unfoldable pub decoded : List ℕ → Result Record Refusal
 decoded r =
-    cond (all_are 255 r) Erased
+    cond (all_are 255 r) (Ok Erased)
     (cond (eqb (get_or r 0 0) 1) (task_decoded r)
     (cond (eqb (get_or r 0 0) 2) (board_decoded r)
     (cond (eqb (get_or r 0 0) 3) (sem_decoded r)
-    (Refused 2))))
+    (Err UnknownKind))))
 
 -- the bytes of a task, of a board and of a semaphore, as 01's table prints them
 unfoldable pub encode_task : Task → List ℕ

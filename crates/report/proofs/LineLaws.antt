@@ -1,8 +1,7 @@
 -- The lines of the tasks, one behind the other, and how many bytes they take.
 -- Assumes nothing.
 use Prim.Native.Nat.{ℕ, ◌+◌, ◌*◌, ◌≤◌, ◌<◌}
-use mathlib.Core.Path.{◌≡◌, sym, ap, subst, ◌∙◌}
-use mathlib.Core.Logic.{◌≢◌}
+use mathlib.Core.Path.{◌≡◌, refl, sym, ap, subst, ◌∙◌}
 use mathlib.Core.Bool.{cond}
 use mathlib.Core.List.{List, [], ◌∷◌, ◌++◌, append_assoc, append-nil}
 use native.Mathlib.Nat.{zero-add}
@@ -11,30 +10,21 @@ use native.Mathlib.Omega.{arith}
 use lib.ListN.{length, get_or, take, length-append}
 use lib.Dec.{eqb}
 use lib.Seq.{take-suc}
-use borrow.Author.Tests.{lt-ltb, le-ltb, eq-eqb, ne_eqb}
+use borrow.Author.Tests.{le-ltb}
 use Rattle.table.specs.declared.Task.{Task}
 use Rattle.lines.specs.Lines.{Put, numbered, line_of}
 use Rattle.lines.proofs.PutLaws.{put_more, numbered_short}
 use Rattle.charges.specs.declared.Counts.{Counts}
 use Rattle.charges.specs.Charges.{charge_by}
 use Rattle.judging.specs.declared.Verdict.{Verdict}
-use Rattle.judging.specs.Verdicts.{verdict_of}
-use Rattle.executive.specs.States.{tasks_of}
 use Rattle.executive.specs.declared.loaded.Loaded.{Loaded}
+use Rattle.executive.specs.declared.loaded.Refused.{Refused}
+use Rattle.executive.specs.Reading.{Reading, reading_by, reading_of}
+use Rattle.table.specs.Refusals.{number_of}
+use Rattle.table.proofs.RefusalLaws.{number_not_zero}
+use Rattle.std.specs.Prelude.{Ok, Err}
 use Rattle.image.specs.Loading.{load_of}
-use Rattle.report.specs.Report.{
-  Reported,
-  report_of,
-  state_lines,
-  task_lines,
-  image_line,
-  image_word,
-  task_word,
-  verdict_word,
-  line_by,
-  lines_by,
-  verdict_line,
-}
+use Rattle.report.specs.Report.{Reported, report_of, state_lines, image_line, image_word, task_word, verdict_word, line_by, lines_by, verdict_line}
 
 -- a line takes its word, 21 bytes for each number, and its end at the most
 pub line_short : (word numbers : List ℕ) → length (line_of word numbers) ≤ length word + 21 * length numbers + 1
@@ -70,10 +60,6 @@ pub put_lines_more : (counts : Counts) (l : List Task) (i : ℕ) (d : Task) {a b
     → Put a 0 (lines_by counts (take i l)) b at → Put b at (line_by counts (get_or l i d)) c end → Put a 0 (lines_by counts (take (i + 1) l)) c end
 put_lines_more counts l i d h p q = rw (lines_more counts l i d h) (put_more (lines_by counts (take i l)) (line_by counts (get_or l i d)) p q)
 
--- a buffer that might be too short is left as it was
-pub reported_short : (image before : List ℕ) → length before < 4402 → Reported image before before 0
-reported_short image before h = record { contents = rw (lt-ltb (length before) 4402 h); ends = rw (lt-ltb (length before) 4402 h); inside = omega arith }
-
 -- else the output is put at its front
 pub reported_put : (image before after : List ℕ) (end : ℕ) → 4402 ≤ length before → end ≤ 4402 → Put before 0 (report_of image) after end
     → Reported image before after end
@@ -85,15 +71,15 @@ reported_put image before after end h k p =
     }
 
 -- what is printed for an image that is refused, and for one that is not
-pub report_refused : (image : List ℕ) (l : Loaded) → l ≡ load_of image → l.number ≢ 0 → report_of image ≡ line_of image_word (l.number ∷ l.place ∷ [])
-unfolding report_of image_line
-report_refused image l e h =
-    subst (λ (x : Loaded). cond (eqb x.number 0) (state_lines x.state) (image_line x) ≡ line_of image_word (l.number ∷ l.place ∷ [])) e
-    (rw (ne_eqb l.number 0 h))
+module _ (image : List ℕ) (l : Loaded) (e : reading_of l ≡ load_of image) where
+  pub report_refused : (r : Refused) → l.answer ≡ Err r → report_of image ≡ line_of image_word (number_of r.refusal ∷ r.place ∷ [])
+  unfolding report_of image_line
+  report_refused r h =
+      subst (λ (x : Reading). cond (eqb x.number 0) (state_lines x.state) (image_line x) ≡ line_of image_word (number_of r.refusal ∷ r.place ∷ []))
+      (ap (reading_by l.state) (sym h) ∙ e)
+      (rw (number_not_zero r.refusal))
 
-pub report_accepted : (image : List ℕ) (l : Loaded) → l ≡ load_of image → l.number ≡ 0
-    → report_of image ≡ task_lines (tasks_of l.state) l.state.board ++ verdict_line (verdict_of (tasks_of l.state) l.state.board)
-unfolding report_of state_lines
-report_accepted image l e h =
-    subst (λ (x : Loaded). cond (eqb x.number 0) (state_lines x.state) (image_line x) ≡ state_lines l.state) e
-    (rw (eq-eqb l.number 0 h))
+  pub report_accepted : (x : Unit) → l.answer ≡ Ok x → report_of image ≡ state_lines l.state
+  unfolding report_of
+  report_accepted x h =
+      subst (λ (r : Reading). cond (eqb r.number 0) (state_lines r.state) (image_line r) ≡ state_lines l.state) (ap (reading_by l.state) (sym h) ∙ e) refl

@@ -10,7 +10,7 @@ use Rattle.charges.specs.declared.Counts.{Counts}
 use Rattle.charges.specs.Charges.{counts_of, charge_by}
 use Rattle.judging.specs.declared.Verdict.{Verdict}
 use Rattle.judging.specs.Verdicts.{verdict_of}
-use Rattle.executive.specs.declared.loaded.Loaded.{Loaded}
+use Rattle.executive.specs.Reading.{Reading}
 use Rattle.image.specs.Loading.{load_of}
 
 -- the words `task`, `verdict` and `image`
@@ -39,7 +39,7 @@ unfoldable pub verdict_line : Verdict → List ℕ
 verdict_line v = line_of verdict_word (v.number ∷ v.task ∷ [])
 
 -- a refused image prints only `image`, number, place
-unfoldable pub image_line : Loaded → List ℕ
+unfoldable pub image_line : Reading → List ℕ
 image_line l = line_of image_word (l.number ∷ l.place ∷ [])
 
 unfoldable pub state_lines : State → List ℕ

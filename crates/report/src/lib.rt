@@ -3,13 +3,11 @@
 
 ghost use Rattle.std.specs.Prelude.{◌+◌, ◌≤◌, [], ◌∷◌, length};
 ghost use Rattle.lines.specs.Lines.{Put, line_of};
-ghost use Rattle.executive.specs.States.{tasks_of};
-ghost use Rattle.executive.specs.Sound.{Sound};
 ghost use Rattle.report.specs.Report.{Reported, line_by, task_lines};
 
 use charges::Counts;
-use executive::state::State;
-use table::{Task, numbers};
+use judging::judge;
+use table::{Board, Task};
 
 // The most that is ever printed: 64 lines of at most 68 bytes for the tasks, and one of at most 50 for the verdict.
 pub const BYTES: usize = 4_402;
@@ -23,36 +21,33 @@ pub fn report(image: &[u8], out: &mut [u8]) -> usize
         return 0;
     }
     let loaded = image::load::load(image);
-    let number = loaded.number;
-    if number != numbers::DONE {
-        return put_pair(out, 0, b"image", number as u64, loaded.place as u64);
+    if let Err(refused) = loaded.answer {
+        let number = refused.refusal.number();
+        return put_pair(out, 0, b"image", number as u64, refused.place as u64);
     }
     let state = loaded.state;
-    let end = put_tasks(state, out);
-    let told = judging::judge::judge(state);
+    let end = put_tasks(&state.tasks[..state.n], state.board, out);
+    let told = judge::told(judge::judge(state));
     put_pair(out, end, b"verdict", told.number as u64, told.task as u64)
 }
 
-// A line for each task: `task`, number, queue, charge.
-fn put_tasks(state: State, out: &mut [u8]) -> usize
-    requires { Sound state × (4352 ≤ length out.old) }
-    ensures { Put out.old 0 (task_lines (tasks_of state) state.board) out.new result × (result ≤ 4352) }
+// A line for each task: `task`, number, queue, charge. They are at most 64, as in `charges`. Here and below a place goes
+// in and the end comes out, as in `lines`, whose promise (`Put`) theirs is; the room is a clause of each.
+fn put_tasks(tasks: &[Task], board: Board, out: &mut [u8]) -> usize
+    requires { (length tasks.now ≤ 64) × (4352 ≤ length out.old) }
+    ensures { Put out.old 0 (task_lines tasks.now board) out.new result × (result ≤ 4352) }
 {
-    let tasks = state.tasks;
-    let n = state.n;
-    let counts = Counts::of(tasks, n, state.board);
+    let counts = Counts::of(tasks, board);
     let mut at: usize = 0;
-    let mut i: usize = 0;
-    while i < n {
-        at = put_task(counts, tasks[i], out, at);
-        i += 1;
+    for task in tasks {
+        at = put_task(counts, *task, out, at);
     }
     at
 }
 
 // One task's line.
 fn put_task(counts: Counts, task: Task, out: &mut [u8], at: usize) -> usize
-    requires { (counts.r ≤ counts.n) × (at + 68 ≤ length out.old) }
+    requires { at + 68 ≤ length out.old }
     ensures { Put out.old at (line_by counts task) out.new result }
 {
     let told = [task.number as u64, task.queue as u64, counts.charge(task)];

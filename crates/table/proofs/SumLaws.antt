@@ -1,15 +1,13 @@
--- The laws of sums, counts and tests over a list.
+-- The laws of tests over a list.
 -- Assumes nothing.
-use Prim.Native.Nat.{ℕ, zero, suc, ◌+◌, ◌*◌, ◌≤◌, ◌<◌}
+use Prim.Native.Nat.{ℕ, zero, suc, ◌<◌}
 use mathlib.Core.Path.{◌≡◌, refl, sym, ap, ◌∙◌}
 use mathlib.Core.Bool.{Bool, true, false, cond, ◌&&◌, ◌||◌}
 use mathlib.Core.List.{List, [], ◌∷◌, ◌++◌, map}
-use native.Mathlib.Nat.{add_assoc, zero-add, add-zero, le_of_suc-le-suc, not-suc-le-zero, zero-mul, suc-mul}
-use native.Mathlib.Numerals.{add-one}
+use native.Mathlib.Nat.{le_of_suc-le-suc, not-suc-le-zero}
 use native.Mathlib.Omega.{arith}
-use lib.ListN.{length, get_or, take, drop, set, drop_of_length-le}
-use lib.Seq.{take-suc, drop-cons}
-use Rattle.table.specs.Sums.{sum_of, count_of, every, any}
+use lib.ListN.{length, get_or, set}
+use Rattle.table.specs.Sums.{every, any}
 
 -- both halves of a conjunction, and a conjunction of both
 pub both_left : (a b : Bool) → (a && b) ≡ true → a ≡ true
@@ -38,98 +36,41 @@ pub either_way : {A : Type 0} (P : A → Type 0) (b : Bool) (x y : A) → P x �
 either_way P true x y p q = p
 either_way P false x y p q = q
 
--- a count's gate is at most 1
-gate_small : (b : Bool) → cond b 1 0 ≤ 1
-gate_small true = omega arith
-gate_small false = omega arith
-
 module _ {A : Type 0} where
-  pub sum_of_append : (f : A → ℕ) (xs ys : List A) → sum_of f (xs ++ ys) ≡ sum_of f xs + sum_of f ys
-  unfolding sum_of
-  sum_of_append f [] ys = sym (zero-add _)
-  sum_of_append f (x ∷ xs) ys = rw (sum_of_append f xs ys) (sym (add_assoc (f x) (sum_of f xs) (sum_of f ys)))
-
-  pub sum_of_one : (f : A → ℕ) (x : A) → sum_of f (x ∷ []) ≡ f x
-  unfolding sum_of
-  sum_of_one f x = add-zero (f x)
-
-  -- one entry more
-  pub sum_of_more : (f : A → ℕ) (l : List A) (i : ℕ) (d : A) → i < length l → sum_of f (take (i + 1) l) ≡ sum_of f (take i l) + f (get_or l i d)
-  sum_of_more f l i d h =
-      ap (λ (n : ℕ). sum_of f (take n l)) (add-one i) ∙ ap (sum_of f) (take-suc l i d h) ∙ sum_of_append f (take i l) (get_or l i d ∷ [])
-      ∙ ap (λ (n : ℕ). sum_of f (take i l) + n) (sum_of_one f (get_or l i d))
-
-  -- no entry above a bound, no sum above as many times that bound
-  pub sum_of_bound : (f : A → ℕ) (b : ℕ) (l : List A) → ((i : ℕ) → i < length l → (d : A) → f (get_or l i d) ≤ b) → sum_of f l ≤ length l * b
-  unfolding sum_of
-  sum_of_bound f b [] h = rw (zero-mul b) (omega arith)
-  sum_of_bound f b (x ∷ xs) h =
-      let a : f x ≤ b = h 0 (omega arith) x in
-      let k : sum_of f xs ≤ length xs * b = sum_of_bound f b xs (λ i k d. h (suc i) (omega arith) d) in
-      rw (suc-mul (length xs) b) (omega arith)
-
-  pub count_of_more : (test : A → Bool) (l : List A) (i : ℕ) (d : A) → i < length l
-      → count_of test (take (i + 1) l) ≡ count_of test (take i l) + cond (test (get_or l i d)) 1 0
-  unfolding count_of
-  count_of_more test l i d h = sum_of_more (λ x. cond (test x) 1 0) l i d h
-
-  pub count_of_bound : (test : A → Bool) (l : List A) → count_of test l ≤ length l
-  unfolding count_of
-  count_of_bound test l =
-      let h : sum_of (λ x. cond (test x) 1 0) l ≤ length l * 1 = sum_of_bound (λ x. cond (test x) 1 0) 1 l (λ i k d. gate_small (test (get_or l i d))) in
-      omega arith
-
   -- a test that every entry passes, at each place
   pub every_at : (test : A → Bool) (l : List A) → every test l ≡ true → (i : ℕ) → i < length l → (d : A) → test (get_or l i d) ≡ true
-  unfolding every
   every_at test [] h i k d = absurd (not-suc-le-zero k)
   every_at test (x ∷ xs) h zero k d = both_left (test x) (every test xs) h
   every_at test (x ∷ xs) h (suc i) k d = every_at test xs (both_right (test x) (every test xs) h) i (le_of_suc-le-suc k) d
 
   -- a weaker test holds of every entry too
   pub every_weaker : (p q : A → Bool) → ((x : A) → p x ≡ true → q x ≡ true) → (l : List A) → every p l ≡ true → every q l ≡ true
-  unfolding every
   every_weaker p q so [] h = refl
   every_weaker p q so (x ∷ xs) h =
       both (q x) (every q xs) (so x (both_left (p x) (every p xs) h)) (every_weaker p q so xs (both_right (p x) (every p xs) h))
 
   pub every_append : (test : A → Bool) (xs ys : List A) → every test (xs ++ ys) ≡ (every test xs && every test ys)
-  unfolding every
   every_append test [] ys = refl
   every_append test (x ∷ xs) ys = rw (every_append test xs ys) (sym (mathlib.Core.Bool.and_assoc (test x) (every test xs) (every test ys)))
 
   pub any_append : (test : A → Bool) (xs ys : List A) → any test (xs ++ ys) ≡ (any test xs || any test ys)
-  unfolding any
   any_append test [] ys = refl
   any_append test (x ∷ xs) ys = rw (any_append test xs ys) (sym (mathlib.Core.Bool.or_assoc (test x) (any test xs) (any test ys)))
 
   -- no entry passes a test that none of the list passes
   pub any_none : (test : A → Bool) (l : List A) → any test l ≡ false → (i : ℕ) → i < length l → (d : A) → test (get_or l i d) ≡ false
-  unfolding any
   any_none test [] h i k d = absurd (not-suc-le-zero k)
   any_none test (x ∷ xs) h zero k d = (neither (test x) (any test xs) h).0
   any_none test (x ∷ xs) h (suc i) k d = any_none test xs (neither (test x) (any test xs) h).1 i (le_of_suc-le-suc k) d
 
-  -- a search for an entry that passes: the entry at i, or the rest; at the end none
-  pub any_more : (test : A → Bool) (l : List A) (i : ℕ) (d : A) → i < length l → any test (drop i l) ≡ (test (get_or l i d) || any test (drop (i + 1) l))
-  unfolding any
-  any_more test l i d h =
-      ap (any test) (drop-cons l i d h) ∙ ap (λ (n : ℕ). test (get_or l i d) || any test (drop n l)) (sym (add-one i))
-
-  pub any_end : (test : A → Bool) (l : List A) (i : ℕ) → length l ≤ i → any test (drop i l) ≡ false
-  unfolding any
-  any_end test l i h = ap (any test) (drop_of_length-le l h)
-
   -- one entry that passes is enough
   pub any_some : (test : A → Bool) (l : List A) (i : ℕ) (d : A) → i < length l → test (get_or l i d) ≡ true → any test l ≡ true
-  unfolding any
   any_some test [] i d h e = absurd (not-suc-le-zero h)
   any_some test (x ∷ xs) zero d h e = rw e
   any_some test (x ∷ xs) (suc i) d h e = rw (any_some test xs i d (le_of_suc-le-suc h) e) (mathlib.Core.Bool.or-true (test x))
 
   -- where no entry passes, none of the list does
   pub none_any : (test : A → Bool) (l : List A) (d : A) → ((i : ℕ) → i < length l → test (get_or l i d) ≡ false) → any test l ≡ false
-  unfolding any
   none_any test [] d h = refl
   none_any test (x ∷ xs) d h = rw (h 0 (omega arith)) (none_any test xs d (λ i k. h (suc i) (omega arith)))
 
@@ -141,12 +82,10 @@ at_map f (x ∷ xs) (suc j) d h = at_map f xs j d (le_of_suc-le-suc h)
 
 -- a test of what a function makes of the entries
 pub any_map : {A B : Type 0} (f : A → B) (test : B → Bool) (l : List A) → any test (map f l) ≡ any (λ x. test (f x)) l
-unfolding any
 any_map f test [] = refl
 any_map f test (x ∷ xs) = ap (λ (b : Bool). test (f x) || b) (any_map f test xs)
 
 pub every_map : {A : Type 0} (f : A → A) (test : A → Bool) → ((x : A) → test (f x) ≡ test x) → (l : List A) → every test (map f l) ≡ every test l
-unfolding every
 every_map f test same [] = refl
 every_map f test same (x ∷ xs) =
     ap (λ (b : Bool). b && every test (map f xs)) (same x) ∙ ap (λ (b : Bool). test x && b) (every_map f test same xs)

@@ -1,12 +1,10 @@
 -- The entries of a table.
-use Rattle.std.specs.Prelude.{ℕ, cond, eqb}
+use Rattle.std.specs.Prelude.{ℕ, cond, eqb, Option, None}
 use Rattle.table.specs.declared.Board.{Board}
 use Rattle.table.specs.declared.Task.{Task}
 use Rattle.table.specs.declared.Sem.{Sem}
 use Rattle.table.specs.declared.Status.{Status}
 use Rattle.table.specs.declared.Status.TheVariants.{Idle}
-use Rattle.table.specs.declared.Holder.{Holder}
-use Rattle.table.specs.declared.Holder.TheVariants.{Free}
 
 -- 01, "The image": the nine figures that hold if there is no board record (request e) moves them)
 unfoldable pub built_in : Board
@@ -44,7 +42,7 @@ blank_task = record { deadline = 0; period = 0; cost = 0; due = 0; number = 0; q
 
 -- what stands at a place that no semaphore has
 abbrev pub blank_sem : Sem
-blank_sem = record { number = 0; holder = Free }
+blank_sem = record { number = 0; holder = None }
 
 -- 02, a): the time from a release to its deadline is the deadline in the task's record, where zero means the period
 unfoldable pub span_of : Task → ℕ
@@ -77,7 +75,7 @@ with_deadline t at =
     }
 
 -- the same semaphore, held otherwise
-abbrev pub with_holder : Sem → Holder → Sem
+abbrev pub with_holder : Sem → Option ℕ → Sem
 with_holder s now = record { number = s.number; holder = now }
 
 -- 01, "Dispatch": all tasks are idle after loading, and a task not yet released has deadline 0
@@ -86,4 +84,4 @@ loaded_task t = with_deadline (with_status t Idle) 0
 
 -- no semaphore is held after loading
 abbrev pub loaded_sem : Sem → Sem
-loaded_sem s = with_holder s Free
+loaded_sem s = with_holder s None

@@ -1,4 +1,4 @@
-// The entries of a rack's table, the limits and the numbers of document 01, and the built-in figures of the board.
+// The entries of a rack's table, the limits and the refusals of document 01, and the built-in figures of the board.
 #![tactic(auto)]
 
 ghost use Rattle.std.specs.Prelude.{◌≡◌};
@@ -6,8 +6,8 @@ ghost use Rattle.table.specs.Entries.{built_in, no_figures, blank_task, blank_se
 ghost use Rattle.table.specs.Entries.{span_of, with_status, with_deadline, with_holder};
 
 pub mod limits;
-pub mod numbers;
 pub mod ranges;
+pub mod refusals;
 
 // What a task is doing. A semaphore is named by its place in the table.
 #[derive(Clone, Copy)]
@@ -18,22 +18,9 @@ pub enum Status {
     Waits(u8),
 }
 
-// Who holds a semaphore. A task is named by its place in the table.
-#[derive(Clone, Copy)]
-pub enum Holder {
-    Free,
-    By(u8),
-}
-
-// Where a number stands among the entries, if it does.
-#[derive(Clone, Copy)]
-pub enum Found {
-    At(usize),
-    Nothing,
-}
-
 // A task. The wide fields stand first, so that an entry has no gaps. `due` is the deadline as the record has it, in
-// ticks from a release, 0 for the period; `deadline` is that of the last release.
+// ticks from a release, 0 for the period; `deadline` is that of the last release. A queue is its number, on which 01 asks
+// for a `match`; the blank task has 0, and a record may have any.
 #[derive(Clone, Copy)]
 pub struct Task {
     pub deadline: u64,
@@ -45,10 +32,11 @@ pub struct Task {
     pub status: Status,
 }
 
+// A semaphore. Who holds it is named by its position in the table.
 #[derive(Clone, Copy)]
 pub struct Sem {
     pub number: u16,
-    pub holder: Holder,
+    pub holder: Option<u8>,
 }
 
 // The nine overhead figures, in the order of the board record.
@@ -85,6 +73,7 @@ impl Board {
     pub const PER_QUEUE: u16 = 55;
 
     // The figures that hold if there is no board record.
+    #[tactic(auto, unfolding(crate::specs::Entries::built_in))]
     pub fn built_in() -> Self
         ensures { result ≡ built_in }
     {
@@ -139,33 +128,22 @@ impl Task {
     pub fn with_status(self, status: Status) -> Self
         ensures { result ≡ with_status self status }
     {
-        Self {
-            deadline: self.deadline,
-            period: self.period,
-            cost: self.cost,
-            due: self.due,
-            number: self.number,
-            queue: self.queue,
-            status,
-        }
+        Self { status, ..self }
     }
 
     // The same task, with another deadline.
-    pub fn with_deadline(mut self, deadline: u64) -> Self
+    pub fn with_deadline(self, deadline: u64) -> Self
         ensures { result ≡ with_deadline self deadline }
     {
-        self.deadline = deadline;
-        self
+        Self { deadline, ..self }
     }
 
     // The time from a release to its deadline.
+    #[tactic(auto, unfolding(crate::specs::Entries::span_of))]
     pub fn span(self) -> u32
         ensures { result ≡ span_of self }
     {
-        if self.due == 0 {
-            return self.period;
-        }
-        self.due
+        if self.due == 0 { self.period } else { self.due }
     }
 }
 
@@ -176,17 +154,14 @@ impl Sem {
     {
         Self {
             number: 0,
-            holder: Holder::Free,
+            holder: None,
         }
     }
 
     // The same semaphore, held otherwise.
-    pub fn with_holder(self, holder: Holder) -> Self
+    pub fn with_holder(self, holder: Option<u8>) -> Self
         ensures { result ≡ with_holder self holder }
     {
-        Self {
-            number: self.number,
-            holder,
-        }
+        Self { holder, ..self }
     }
 }

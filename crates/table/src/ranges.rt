@@ -6,6 +6,7 @@ ghost use Rattle.table.specs.WellFormed.{task_before, sem_before};
 
 use crate::{Board, Sem, Task, limits};
 
+#[tactic(auto, unfolding(crate::specs::WellFormed::task_in_range, crate::specs::WellFormed::within))]
 pub fn task_in_range(task: Task) -> bool
     ensures { result ≡ task_in_range task }
 {
@@ -17,6 +18,7 @@ pub fn task_in_range(task: Task) -> bool
 }
 
 // The number, the period, the cost and the deadline.
+#[tactic(auto, unfolding(crate::specs::WellFormed::within))]
 fn fields_in_range(task: Task) -> bool
     ensures { result
         ≡ (within 1 task.number 65535
@@ -31,18 +33,21 @@ fn fields_in_range(task: Task) -> bool
 }
 
 // A deadline of its own leaves room for the cost, falls before the period's end, and only an FP task has one.
+#[tactic(auto, unfolding(crate::specs::WellFormed::due_in_range))]
 fn due_in_range(task: Task) -> bool
     ensures { result ≡ due_in_range task }
 {
     (task.due == 0) | ((task.queue == 3) & (task.cost <= task.due) & (task.due < task.period))
 }
 
+#[tactic(auto, unfolding(crate::specs::WellFormed::sem_in_range, crate::specs::WellFormed::within))]
 pub fn sem_in_range(sem: Sem) -> bool
     ensures { result ≡ sem_in_range sem }
 {
     (1 <= sem.number) & (sem.number <= limits::NUMBER_MOST)
 }
 
+#[tactic(auto, unfolding(crate::specs::WellFormed::board_in_range))]
 pub fn board_in_range(b: Board) -> bool
     ensures { result ≡ board_in_range b }
 {
@@ -59,14 +64,15 @@ pub fn board_in_range(b: Board) -> bool
 }
 
 // Tasks stand by rising period, equal periods by rising number, queues never falling.
+#[tactic(auto, unfolding(crate::specs::WellFormed::task_before))]
 pub fn task_before(a: Task, b: Task) -> bool
     ensures { result ≡ task_before a b }
 {
-    (a.queue <= b.queue)
-        & ((a.period < b.period) | ((a.period == b.period) & (a.number < b.number)))
+    (a.queue <= b.queue) & ((a.period, a.number) < (b.period, b.number))
 }
 
 // Semaphores stand by rising number.
+#[tactic(auto, unfolding(crate::specs::WellFormed::sem_before))]
 pub fn sem_before(first: Sem, second: Sem) -> bool
     ensures { result ≡ sem_before first second }
 {

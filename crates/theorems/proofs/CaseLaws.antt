@@ -1,7 +1,7 @@
 -- Every row of the table of cases holds. A row with a verdict is decided by computation, and the decision is proved right once, for all of them.
 -- Assumes nothing.
 use Prim.Native.Nat.{ℕ, zero, suc}
-use mathlib.Core.Path.{◌≡◌, refl, sym, ap, ◌∙◌}
+use mathlib.Core.Path.{◌≡◌, refl, sym, ◌∙◌}
 use mathlib.Core.Bool.{Bool, true, false, ◌&&◌}
 use mathlib.Core.List.{List, [], ◌∷◌, map}
 use native.Mathlib.Omega.{arith}
@@ -12,29 +12,20 @@ use Rattle.table.specs.declared.Board.{Board}
 use Rattle.table.specs.declared.Task.{Task}
 use Rattle.table.specs.Entries.{built_in, span_of}
 use Rattle.table.specs.Refusals.{first_of}
-use Rattle.table.specs.Sums.{sum_of, count_of, every}
+use Rattle.table.specs.Sums.{every}
 use Rattle.table.proofs.SumLaws.{both_left, both_right, every_at}
-use Rattle.charges.specs.Charges.{
-  tasks_in,
-  counts_of,
-  choice_unblocked,
-  sum_by,
-  charge_by,
-  load_by,
-  charge_of,
-  load_of,
-}
+use Rattle.charges.specs.Charges.{counts_of, load_by, charge_of, load_of}
 use Rattle.judging.specs.declared.Verdict.{Verdict}
-use Rattle.judging.specs.Columns.{at, columns_of}
+use Rattle.judging.specs.declared.Row.{Row}
+use Rattle.judging.specs.Rows.{blank_row, row_at, row_of, rows_of}
 use Rattle.judging.specs.Periods.{plus, fractions, above_one, over_full}
-use Rattle.judging.specs.Demands.{sum_to, ceil, star, counted, demand_dp2, demand_fp}
-use Rattle.judging.specs.Verdicts.{or_else, first_below, found, name_of, named, verdict_of}
-use Rattle.judging.proofs.ColumnLaws.{queues_length, periods_length_lem}
+use Rattle.judging.specs.Demands.{ceil, demand_dp2, demand_fp}
+use Rattle.judging.specs.Verdicts.{first_below, name_of, verdict_of}
 use Rattle.judging.proofs.FixedLaws.{
   forced,
-  forced_list,
-  forced_columns,
-  forced_columns_lem,
+  forced_row,
+  forced_rows,
+  forced_rows_lem,
   gcd_forced,
   lcm_forced,
   shared_forced,
@@ -43,8 +34,8 @@ use Rattle.judging.proofs.FixedLaws.{
   fixed_from,
   fixed_up_to,
   fixed_late,
-  fixed_outcome,
-  fixed_outcome_lem,
+  fixed_by,
+  fixed_by_lem,
 }
 use Rattle.theorems.specs.Spans.{guards}
 use Rattle.theorems.specs.Cases.{Case, judged, shared, played, undone, Judged, Holds, cases, All}
@@ -67,32 +58,32 @@ same_true (x ∷ xs) (y ∷ ys) h =
     let b : xs ≡ ys = same_true xs ys (both_right (eqb x y) (same xs ys) h) in
     cc
 
+-- each task has a period
+dated : List Row → Bool
+dated rows = every (λ r. ltb 0 r.period) rows
+
 -- the verdict, with the times decided in few steps
 fixed_verdict : List Task → Board → Verdict
-fixed_verdict tasks board = forced_columns (columns_of tasks board) (λ c. named tasks (fixed_outcome c))
+fixed_verdict tasks board = forced_rows (rows_of tasks board) (fixed_by tasks)
 
-fixed_verdict_lem : (tasks : List Task) (board : Board) → every (λ p. ltb 0 p) (columns_of tasks board).periods ≡ true
-    → fixed_verdict tasks board ≡ verdict_of tasks board
-unfolding fixed_verdict verdict_of
+fixed_verdict_lem : (tasks : List Task) (board : Board) → dated (rows_of tasks board) ≡ true → fixed_verdict tasks board ≡ verdict_of tasks board
+unfolding dated fixed_verdict verdict_of
 fixed_verdict_lem tasks board h =
-    let c = columns_of tasks board in
-    forced_columns_lem c (λ c. named tasks (fixed_outcome c))
-    ∙ ap (named tasks)
-    (fixed_outcome_lem c
-    (λ j k.
-    ltb-true 0 (at c.periods j) (every_at (λ p. ltb 0 p) c.periods h j (omega (arith, queues_length tasks board, periods_length_lem tasks board)) 0)))
+    let rows = rows_of tasks board in
+    forced_rows_lem rows (fixed_by tasks)
+    ∙ fixed_by_lem tasks rows (λ j k. ltb-true 0 (row_at rows j).period (every_at (λ r. ltb 0 r.period) rows h j k blank_row))
 
 -- a row with a verdict is right
 rightly : List Task → Board → List ℕ → ℕ → ℕ → Bool
 rightly tasks board charges number task =
-    every (λ p. ltb 0 p) (columns_of tasks board).periods
+    dated (rows_of tasks board)
     && same (map (charge_of tasks board) tasks) charges
     && (eqb (fixed_verdict tasks board).number number && eqb (fixed_verdict tasks board).task task)
 
 right : Case → Bool
 right (judged tasks board charges number task) = rightly tasks board charges number task
 right (shared tasks board charges number task period) =
-    rightly tasks board charges number task && eqb (shared_forced (columns_of tasks board) (length tasks)) period
+    rightly tasks board charges number task && eqb (shared_forced (rows_of tasks board) (length tasks)) period
 right (played table steps) = false
 right (undone table steps others) = false
 
@@ -100,7 +91,7 @@ rightly_judged : (tasks : List Task) (board : Board) (charges : List ℕ) (numbe
     → Judged tasks board charges number task
 unfolding rightly
 rightly_judged tasks board charges number task h =
-    let p = every (λ p. ltb 0 p) (columns_of tasks board).periods in
+    let p = dated (rows_of tasks board) in
     let c = same (map (charge_of tasks board) tasks) charges in
     let v = fixed_verdict tasks board in
     let n = eqb v.number number in
@@ -118,7 +109,7 @@ unfolding right
 right_holds (judged tasks board charges number task) h = rightly_judged tasks board charges number task h
 right_holds (shared tasks board charges number task period) h =
     let j = rightly tasks board charges number task in
-    let c = columns_of tasks board in
+    let c = rows_of tasks board in
     let s = eqb (shared_forced c (length tasks)) period in (
       rightly_judged tasks board charges number task (both_left j s h),
       sym (shared_forced_lem c (length tasks)) ∙ eqb-true (shared_forced c (length tasks)) period (both_right j s h),
@@ -127,7 +118,6 @@ right_holds (played table steps) h = let z : ◌≡◌ {A = ℕ} 0 1 = cc in abs
 right_holds (undone table steps others) h = let z : ◌≡◌ {A = ℕ} 0 1 = cc in absurd (omega arith)
 
 all_right : (l : List Case) → every right l ≡ true → All l
-unfolding every
 all_right [] h = tt
 all_right (c ∷ rest) h = (right_holds c (both_left (right c) (every right rest) h), all_right rest (both_right (right c) (every right rest) h))
 
@@ -138,7 +128,7 @@ all_parts (suc n) [] a b = tt
 all_parts (suc n) (c ∷ rest) a b = (a.0, all_parts n rest a.1 b)
 
 judged_rows : (every right (take 8 cases) ≡ true) × (every right guards ≡ true)
-unfolding cases guards right rightly same every fixed_verdict forced forced_list forced_columns gcd_forced lcm_forced shared_forced long_from fixed_from fixed_up_to fixed_late fixed_outcome tasks_in counts_of choice_unblocked sum_by charge_by load_by charge_of load_of plus fractions above_one over_full sum_to ceil star counted demand_dp2 demand_fp or_else first_below found columns_of name_of named built_in span_of first_of sum_of count_of
+unfolding cases guards right rightly same dated fixed_verdict forced forced_row forced_rows gcd_forced lcm_forced shared_forced long_from fixed_from fixed_up_to fixed_late fixed_by counts_of load_by charge_of load_of plus fractions above_one over_full ceil demand_dp2 demand_fp first_below row_of rows_of name_of built_in span_of first_of
 judged_rows = (refl, refl)
 
 p1_p9 : All (take 8 cases)

@@ -1,5 +1,6 @@
 -- Demand 1, "exactly when": each call gives the number of the first of its conditions that holds, and 0 where none does.
 -- Assumes nothing.
+use Rattle.std.specs.Prelude.{Option, Some, None, position}
 use Prim.Native.Nat.{ℕ, zero, suc, ◌<◌}
 use mathlib.Core.Path.{◌≡◌, refl, sym, ap, subst, ◌∙◌}
 use mathlib.Core.Logic.{◌↔◌, ◌≢◌, ◌⊎◌, inl, inr, ⊎_elim}
@@ -13,21 +14,17 @@ use Rattle.table.specs.declared.Task.{Task}
 use Rattle.table.specs.declared.Sem.{Sem}
 use Rattle.table.specs.declared.Status.{Status}
 use Rattle.table.specs.declared.Status.TheVariants.{Idle, Ready, Event, Waits}
-use Rattle.table.specs.declared.Holder.{Holder}
-use Rattle.table.specs.declared.Holder.TheVariants.{Free, By}
-use Rattle.table.specs.declared.Found.{Found}
-use Rattle.table.specs.declared.Found.TheVariants.{At, Nothing}
 use Rattle.table.specs.Entries.{blank_task, blank_sem}
 use Rattle.table.specs.Refusals.{first_of, answered}
 use Rattle.table.specs.Sums.{any}
-use Rattle.table.specs.Places.{first_place, task_place, sem_place}
+use Rattle.table.specs.Places.{task_place, sem_place}
 use Rattle.table.proofs.PlaceLaws.{found, missing}
 use Rattle.table.proofs.OrderLaws.{once}
 use Rattle.executive.specs.declared.state.State.{State}
-use Rattle.executive.specs.declared.standing.Stands.{Stands}
+use Rattle.executive.specs.Calls.{stands_refused, Stands}
 use Rattle.executive.specs.States.{tasks_of, sems_of}
 use Rattle.executive.specs.Sound.{Sound}
-use Rattle.waits.specs.Waits.{task_at, sem_at, waits_for, held_by}
+use Rattle.waits.specs.Waits.{task_at, sem_at, waits_for}
 use Rattle.waits.specs.Standing.{found_and, found_or, is_none, closes_ring, holds_it, still_holds, is_idle, is_ready, is_event, ready_at, reaches, standing_of, running_of, best_among}
 use Rattle.waits.specs.Reaches.{Reaches}
 use Rattle.waits.proofs.ChainLaws.{reaches_true, true_reaches}
@@ -52,15 +49,15 @@ answer_of s k next = go (eqb k 0) refl
     go false e = refl
 
 -- nothing found, or something
-none_says : (at : Found) → (is_none at ≡ true) ↔ (at ≡ Nothing)
+none_says : (at : Option ℕ) → (is_none at ≡ true) ↔ (at ≡ None)
 unfolding is_none found_and
-none_says Nothing = (λ h. refl, λ h. refl)
-none_says (At i) = (λ h. let z : ◌≡◌ {A = ℕ} 0 1 = cc in absurd (omega arith), λ h. let z : ◌≡◌ {A = ℕ} 0 1 = cc in absurd (omega arith))
+none_says None = (λ h. refl, λ h. refl)
+none_says (Some i) = (λ h. let z : ◌≡◌ {A = ℕ} 0 1 = cc in absurd (omega arith), λ h. let z : ◌≡◌ {A = ℕ} 0 1 = cc in absurd (omega arith))
 
-some_found : (at : Found) → is_none at ≡ false → at ≡ At (found_or 0 at)
+some_found : (at : Option ℕ) → is_none at ≡ false → at ≡ Some (found_or 0 at)
 unfolding is_none found_and found_or
-some_found Nothing h = let z : ◌≡◌ {A = ℕ} 0 1 = cc in absurd (omega arith)
-some_found (At i) h = refl
+some_found None h = let z : ◌≡◌ {A = ℕ} 0 1 = cc in absurd (omega arith)
+some_found (Some i) h = refl
 
 -- statuses told apart
 idle_says : (now : Status) → (not (is_idle now) ≡ true) ↔ (now ≢ Idle)
@@ -94,12 +91,12 @@ time_says last time = (early (ltb time last) (ltb 1000000000000000 time) refl re
     early false false e f h = let z : ◌≡◌ {A = ℕ} 0 1 = cc in absurd (omega arith)
 
 -- who holds, told apart
-holder_says : (i : ℕ) (h : Holder) → (found_and (λ at. eqb at i) (held_by h) ≡ true) ↔ (h ≡ By i)
-unfolding held_by found_and
-holder_says i Free = (λ t. let z : ◌≡◌ {A = ℕ} 0 1 = cc in absurd (omega arith), λ r. let z : ◌≡◌ {A = ℕ} 0 1 = cc in absurd (omega arith))
-holder_says i (By j) = (λ t. ap By (eqb-true j i t), λ r. eq-eqb j i (cc))
+holder_says : (i : ℕ) (h : Option ℕ) → (found_and (λ at. eqb at i) h ≡ true) ↔ (h ≡ Some i)
+unfolding found_and
+holder_says i None = (λ t. let z : ◌≡◌ {A = ℕ} 0 1 = cc in absurd (omega arith), λ r. let z : ◌≡◌ {A = ℕ} 0 1 = cc in absurd (omega arith))
+holder_says i (Some j) = (λ t. ap Some (eqb-true j i t), λ r. eq-eqb j i (cc))
 
-holds_says : (i : ℕ) (e : Sem) → (holds_it i e ≡ true) ↔ (e.holder ≡ By i)
+holds_says : (i : ℕ) (e : Sem) → (holds_it i e ≡ true) ↔ (e.holder ≡ Some i)
 unfolding holds_it
 holds_says i e = holder_says i e.holder
 
@@ -124,24 +121,23 @@ one_more test P says d x xs rest = (there (test x) refl, λ w. back w.0 w.1 w.2)
 -- some entry passes a test exactly if one is so: over the entry's type
 pub some_says : {A : Type 0} (test : A → Bool) (P : A → Type 0) → ((x : A) → (test x ≡ true) ↔ P x) → (d : A) (l : List A)
     → (any test l ≡ true) ↔ ((k : ℕ) × (k < length l) × P (get_or l k d))
-unfolding any
 some_says test P says d [] = (λ h. let z : ◌≡◌ {A = ℕ} 0 1 = cc in absurd (omega arith), λ w. let k = w.1 in absurd (omega arith))
 some_says test P says d (x ∷ xs) = one_more test P says d x xs (some_says test P says d xs)
 
 -- a number is unknown exactly if no entry has it: over the entry's type
 unknown_says : {A : Type 0} (number_of : A → ℕ) (d : A) (l : List A) (number : ℕ)
-    → (is_none (first_place (λ x. eqb (number_of x) number) 0 l) ≡ true) ↔ ((i : ℕ) → i < length l → number_of (get_or l i d) ≡ number → ⊥)
-unknown_says {A} number_of d l number = (there, back (first_place test 0 l) refl)
+    → (is_none (position (λ x. eqb (number_of x) number) l) ≡ true) ↔ ((i : ℕ) → i < length l → number_of (get_or l i d) ≡ number → ⊥)
+unknown_says {A} number_of d l number = (there, back (position test l) refl)
   where
     test : A → Bool
     test x = eqb (number_of x) number
 
-    there : is_none (first_place test 0 l) ≡ true → (i : ℕ) → i < length l → number_of (get_or l i d) ≡ number → ⊥
-    there h i k = eqb-false (number_of (get_or l i d)) number (missing test l 0 ((none_says (first_place test 0 l)).0 h) i k d)
+    there : is_none (position test l) ≡ true → (i : ℕ) → i < length l → number_of (get_or l i d) ≡ number → ⊥
+    there h i k = eqb-false (number_of (get_or l i d)) number (missing test l ((none_says (position test l)).0 h) i k d)
 
-    back : (at : Found) → first_place test 0 l ≡ at → ((i : ℕ) → i < length l → number_of (get_or l i d) ≡ number → ⊥) → is_none (first_place test 0 l) ≡ true
-    back Nothing e h = (none_says (first_place test 0 l)).1 e
-    back (At i) e h = let f = found test l i d e in absurd (h i f.0 (eqb-true (number_of (get_or l i d)) number f.1))
+    back : (at : Option ℕ) → position test l ≡ at → ((i : ℕ) → i < length l → number_of (get_or l i d) ≡ number → ⊥) → is_none (position test l) ≡ true
+    back None e h = (none_says (position test l)).1 e
+    back (Some i) e h = let f = found test l i d e in absurd (h i f.0 (eqb-true (number_of (get_or l i d)) number f.1))
 
 module _ (s : State) (sound : Sound s) where
   -- 20 and 21
@@ -154,7 +150,7 @@ module _ (s : State) (sound : Sound s) where
   sem_unknown number = unknown_says (λ (e : Sem). e.number) blank_sem (sems_of s) number
 
   -- the task with a number is the one that is found
-  the_task : (number i : ℕ) (P : Task → Type 0) → task_place (tasks_of s) number ≡ At i → P (task_at (tasks_of s) i) ↔ TheTask (tasks_of s) number P
+  the_task : (number i : ℕ) (P : Task → Type 0) → task_place (tasks_of s) number ≡ Some i → P (task_at (tasks_of s) i) ↔ TheTask (tasks_of s) number P
   unfolding task_place task_at
   the_task number i P e =
       let f = found (λ t. eqb t.number number) (tasks_of s) i blank_task e in
@@ -168,7 +164,7 @@ module _ (s : State) (sound : Sound s) where
       )
 
   -- what is found is a task with that number
-  the_place : (number i : ℕ) → task_place (tasks_of s) number ≡ At i → (i < length (tasks_of s)) × ((task_at (tasks_of s) i).number ≡ number)
+  the_place : (number i : ℕ) → task_place (tasks_of s) number ≡ Some i → (i < length (tasks_of s)) × ((task_at (tasks_of s) i).number ≡ number)
   unfolding task_place task_at
   the_place number i e =
       let f = found (λ t. eqb t.number number) (tasks_of s) i blank_task e in
@@ -219,15 +215,15 @@ module _ (s : State) (sound : Sound s) where
   pub standing_when : (number : ℕ) (a : Stands) → (stands_of s number ≡ a) ↔ StandingAnswer s number a
   standing_when number a = (there (task_place (tasks_of s) number) refl, back)
     where
-      unknown : task_place (tasks_of s) number ≡ Nothing → stands_of s number ≡ no_standing
-      unknown e = unfold stands_of no_standing first_of answered is_none found_and in rw e
+      unknown : task_place (tasks_of s) number ≡ None → stands_of s number ≡ no_standing
+      unknown e = unfold stands_of stands_refused no_standing first_of answered is_none found_and in rw e
 
-      known : (i : ℕ) → task_place (tasks_of s) number ≡ At i → stands_of s number ≡ shown (standing_of (tasks_of s) (sems_of s) i)
+      known : (i : ℕ) → task_place (tasks_of s) number ≡ Some i → stands_of s number ≡ shown (standing_of (tasks_of s) (sems_of s) i)
       known i e = unfold stands_of first_of answered is_none found_and found_or in rw e
 
-      there : (f : Found) → task_place (tasks_of s) number ≡ f → stands_of s number ≡ a → StandingAnswer s number a
-      there Nothing e h = inl ((task_unknown number).0 ((none_says (task_place (tasks_of s) number)).1 e), sym h ∙ unknown e)
-      there (At i) e h =
+      there : (f : Option ℕ) → task_place (tasks_of s) number ≡ f → stands_of s number ≡ a → StandingAnswer s number a
+      there None e h = inl ((task_unknown number).0 ((none_says (task_place (tasks_of s) number)).1 e), sym h ∙ unknown e)
+      there (Some i) e h =
           inr (
             i,
             (the_place number i e).0,
@@ -241,8 +237,8 @@ module _ (s : State) (sound : Sound s) where
       back (inl w) = unknown ((none_says (task_place (tasks_of s) number)).0 ((task_unknown number).1 w.0)) ∙ sym w.1
       back (inr (i, below, same, r, is, e)) =
           let n = tasks_count s sound.sized in
-          let place : task_place (tasks_of s) number ≡ At i =
-          subst (λ (x : ℕ). task_place (tasks_of s) x ≡ At i) same (unfold task_at in task_found s sound i (omega arith)) in
+          let place : task_place (tasks_of s) number ≡ Some i =
+          subst (λ (x : ℕ). task_place (tasks_of s) x ≡ Some i) same (unfold task_at in task_found s sound i (omega arith)) in
           known i place
           ∙ ap shown (standing_one (tasks_of s) (sems_of s) i (standing_of (tasks_of s) (sems_of s) i) r (standing_is (tasks_of s) (sems_of s) (chained s sound) i below) is)
           ∙ sym e
@@ -275,12 +271,12 @@ module _ (s : State) (sound : Sound s) where
       not_ready j h false e = e
 
   -- the task that runs is the one that is found
-  the_runner : (i : ℕ) (P : ℕ → Type 0) → running_of (tasks_of s) (sems_of s) ≡ At i → P i ↔ TheRunner s P
+  the_runner : (i : ℕ) (P : ℕ → Type 0) → running_of (tasks_of s) (sems_of s) ≡ Some i → P i ↔ TheRunner s P
   the_runner i P e =
-      (λ p. (i, e, p), λ w. let same : w.0 ≡ i = let f : At w.0 ≡ At i = sym w.1 ∙ e in cc in subst P same w.2)
+      (λ p. (i, e, p), λ w. let same : w.0 ≡ i = let f : Some w.0 ≡ Some i = sym w.1 ∙ e in cc in subst P same w.2)
 
   -- the semaphore with a number is the one that is found
-  the_sem : (number k : ℕ) (P : Sem → Type 0) → sem_place (sems_of s) number ≡ At k → P (sem_at (sems_of s) k) ↔ TheSem (sems_of s) number P
+  the_sem : (number k : ℕ) (P : Sem → Type 0) → sem_place (sems_of s) number ≡ Some k → P (sem_at (sems_of s) k) ↔ TheSem (sems_of s) number P
   unfolding sem_place sem_at
   the_sem number k P e =
       let f = found (λ t. eqb t.number number) (sems_of s) k blank_sem e in
@@ -294,7 +290,7 @@ module _ (s : State) (sound : Sound s) where
             subst (λ (j : ℕ). P (get_or (sems_of s) j blank_sem)) one w.3,
       )
 
-  sem_inside : (number k : ℕ) → sem_place (sems_of s) number ≡ At k → k < length (sems_of s)
+  sem_inside : (number k : ℕ) → sem_place (sems_of s) number ≡ Some k → k < length (sems_of s)
   unfolding sem_place
   sem_inside number k e = (found (λ t. eqb t.number number) (sems_of s) k blank_sem e).0
 
@@ -319,7 +315,7 @@ module _ (s : State) (sound : Sound s) where
       (test_says nobody_runs
       (λ runs. test_says (sem_unknown number)
       (λ known. test_says
-      (of_sem number (λ i e. not (holds_it i e)) (λ i e. e.holder ≢ By i) (λ i e. not_says (holds_it i e) (holds_says i e)) runs known)
+      (of_sem number (λ i e. not (holds_it i e)) (λ i e. e.holder ≢ Some i) (λ i e. not_says (holds_it i e) (holds_says i e)) runs known)
       (λ held. nothing_more)))) k in
       (λ h. tests.0 (sym (answer_of s _ _) ∙ h), λ w. answer_of s _ _ ∙ tests.1 w)
 
@@ -327,13 +323,13 @@ module _ (s : State) (sound : Sound s) where
   unfolding called complete_of still_holds sem_at
   complete_when k =
       let i = found_or 0 (running_of (tasks_of s) (sems_of s)) in
-      let holds = some_says (holds_it i) (λ e. e.holder ≡ By i) (holds_says i) blank_sem (sems_of s) in
+      let holds = some_says (holds_it i) (λ e. e.holder ≡ Some i) (holds_says i) blank_sem (sems_of s) in
       let tests =
       first_that
       (test_says nobody_runs
       (λ runs.
       let runner =
-      the_runner i (λ j. (l : ℕ) × (l < length (sems_of s)) × ((sem_at (sems_of s) l).holder ≡ By j))
+      the_runner i (λ j. (l : ℕ) × (l < length (sems_of s)) × ((sem_at (sems_of s) l).holder ≡ Some j))
       (some_found (running_of (tasks_of s) (sems_of s)) runs) in
       test_says (λ h. runner.0 (holds.0 h), λ w. holds.1 (runner.1 w)) (λ free. nothing_more))) k in
       (λ h. tests.0 (sym (answer_of s _ _) ∙ h), λ w. answer_of s _ _ ∙ tests.1 w)
@@ -345,35 +341,35 @@ module _ (s : State) (sound : Sound s) where
       (λ h. tests.0 (sym (answer_of s _ _) ∙ h), λ w. answer_of s _ _ ∙ tests.1 w)
 
   -- 28: the holder is the caller, or waits for it directly or through others
-  ring_says : (i : ℕ) (h : Holder) → ((j : ℕ) → held_by h ≡ At j → j < length (tasks_of s))
-      → (found_and (reaches (tasks_of s) (sems_of s) i) (held_by h) ≡ true) ↔ ((j : ℕ) × (h ≡ By j) × Reaches (tasks_of s) (sems_of s) i j)
-  unfolding found_and held_by
-  ring_says i Free inside =
+  ring_says : (i : ℕ) (h : Option ℕ) → ((j : ℕ) → h ≡ Some j → j < length (tasks_of s))
+      → (found_and (reaches (tasks_of s) (sems_of s) i) h ≡ true) ↔ ((j : ℕ) × (h ≡ Some j) × Reaches (tasks_of s) (sems_of s) i j)
+  unfolding found_and
+  ring_says i None inside =
       (λ t. let z : ◌≡◌ {A = ℕ} 0 1 = cc in absurd (omega arith), λ w. let e = w.1 in let z : ◌≡◌ {A = ℕ} 0 1 = cc in absurd (omega arith))
-  ring_says i (By j) inside =
+  ring_says i (Some j) inside =
       let c = chained s sound in (
         λ t. (j, refl, true_reaches (tasks_of s) (sems_of s) c i j t),
         λ w.
-            let e : By w.0 ≡ By j = sym w.1 in
+            let e : Some w.0 ≡ Some j = sym w.1 in
             let same : w.0 ≡ j = cc in
             reaches_true (tasks_of s) (sems_of s) c i j (inside j refl) (subst (λ (x : ℕ). Reaches (tasks_of s) (sems_of s) i x) same w.2),
       )
 
   -- 90: somebody holds it
-  held_says : (h : Holder) → (not (is_none (held_by h)) ≡ true) ↔ ((j : ℕ) × (h ≡ By j))
-  unfolding is_none held_by found_and
-  held_says Free = (λ t. let z : ◌≡◌ {A = ℕ} 0 1 = cc in absurd (omega arith), λ w. let e = w.1 in let z : ◌≡◌ {A = ℕ} 0 1 = cc in absurd (omega arith))
-  held_says (By j) = (λ t. (j, refl), λ w. refl)
+  held_says : (h : Option ℕ) → (not (is_none h) ≡ true) ↔ ((j : ℕ) × (h ≡ Some j))
+  unfolding is_none found_and
+  held_says None = (λ t. let z : ◌≡◌ {A = ℕ} 0 1 = cc in absurd (omega arith), λ w. let e = w.1 in let z : ◌≡◌ {A = ℕ} 0 1 = cc in absurd (omega arith))
+  held_says (Some j) = (λ t. (j, refl), λ w. refl)
 
-  acquire_answer : (i k : ℕ) (a b c : Bool) (h : Holder)
+  acquire_answer : (i k : ℕ) (a b c : Bool) (h : Option ℕ)
       → (answered (first_of ((26, a) ∷ (21, b) ∷ (28, c) ∷ [])) (moved s) (take_or_wait s i k h)).answer
-      ≡ first_of ((26, a) ∷ (21, b) ∷ (28, c) ∷ (90, not (is_none (held_by h))) ∷ [])
-  unfolding first_of answered moved take_or_wait is_none held_by found_and
+      ≡ first_of ((26, a) ∷ (21, b) ∷ (28, c) ∷ (90, not (is_none h)) ∷ [])
+  unfolding first_of answered moved take_or_wait is_none found_and
   acquire_answer i k true b c h = refl
   acquire_answer i k false true c h = refl
   acquire_answer i k false false true h = refl
-  acquire_answer i k false false false Free = refl
-  acquire_answer i k false false false (By j) = refl
+  acquire_answer i k false false false None = refl
+  acquire_answer i k false false false (Some j) = refl
 
   pub acquire_when : (number k : ℕ) → ((called s (acquire number)).answer ≡ k) ↔ FirstThat (acquire_conditions s number) k
   unfolding called acquire_of acquire_at closes_ring
@@ -383,21 +379,21 @@ module _ (s : State) (sound : Sound s) where
       let at = sem_place (sems_of s) number in
       let l = found_or 0 at in
       let e = sem_at (sems_of s) l in
-      let inside : is_none at ≡ false → (j : ℕ) → held_by e.holder ≡ At j → j < length (tasks_of s) =
+      let inside : is_none at ≡ false → (j : ℕ) → e.holder ≡ Some j → j < length (tasks_of s) =
       λ known j h. (chained s sound).held l (sem_inside number l (some_found at known)) j h in
-      let answer = acquire_answer i l (is_none runs) (is_none at) (found_and (reaches (tasks_of s) (sems_of s) i) (held_by e.holder)) e.holder in
+      let answer = acquire_answer i l (is_none runs) (is_none at) (found_and (reaches (tasks_of s) (sems_of s) i) e.holder) e.holder in
       let tests =
       first_that
       (test_says nobody_runs
       (λ some. test_says (sem_unknown number)
       (λ known.
       let runner =
-      the_runner i (λ j. TheSem (sems_of s) number (λ x. (o : ℕ) × (x.holder ≡ By o) × Reaches (tasks_of s) (sems_of s) j o))
+      the_runner i (λ j. TheSem (sems_of s) number (λ x. (o : ℕ) × (x.holder ≡ Some o) × Reaches (tasks_of s) (sems_of s) j o))
       (some_found runs some) in
       let sem =
-      the_sem number l (λ x. (o : ℕ) × (x.holder ≡ By o) × Reaches (tasks_of s) (sems_of s) i o) (some_found at known) in
+      the_sem number l (λ x. (o : ℕ) × (x.holder ≡ Some o) × Reaches (tasks_of s) (sems_of s) i o) (some_found at known) in
       let ring = ring_says i e.holder (inside known) in
-      let held = the_sem number l (λ x. (o : ℕ) × (x.holder ≡ By o)) (some_found at known) in
+      let held = the_sem number l (λ x. (o : ℕ) × (x.holder ≡ Some o)) (some_found at known) in
       let taken = held_says e.holder in
       test_says (λ h. runner.0 (sem.0 (ring.0 h)), λ w. ring.1 (sem.1 (runner.1 w)))
       (λ open-end. test_says (λ h. held.0 (taken.0 h), λ w. taken.1 (held.1 w)) (λ free. nothing_more))))) k in

@@ -46,7 +46,7 @@ either false b = (λ h. inr h, λ w. elim w [ inl v ↦ let z : ◌≡◌ {A = �
 
 -- a number other than 0 is that of a test that holds
 pub picked : (k : ℕ) (tests : List (ℕ × Bool)) → first_of tests ≡ k → k ≢ 0 → any (λ t. eqb t.0 k && t.1) tests ≡ true
-unfolding first_of any
+unfolding first_of
 picked k [] h ne = absurd (ne (sym h))
 picked k ((j, true) ∷ rest) h ne = rw (eq-eqb j k h)
 picked k ((j, false) ∷ rest) h ne = rw (and-false (eqb j k)) (picked k rest h ne)

@@ -23,10 +23,10 @@ use Rattle.table.proofs.RefusalLaws.{answered_refused}
 use Rattle.table.proofs.SumLaws.{both_left, both_right, either_right, none_any, every_at}
 use Rattle.waits.specs.Waits.{task_at}
 use Rattle.executive.specs.declared.state.State.{State}
-use Rattle.executive.specs.declared.loaded.Loaded.{Loaded}
+use Rattle.executive.specs.Reading.{Reading}
 use Rattle.executive.specs.States.{tasks_of, sems_of}
 use Rattle.executive.specs.Sound.{Sound}
-use Rattle.executive.specs.Reading.{refused_load, accepted_load}
+use Rattle.executive.specs.Reading.{accepted_load}
 use Rattle.executive.specs.Tables.{loaded_table, state_of, table_of}
 use Rattle.executive.proofs.LookupLaws.{tasks_count, sems_count}
 use Rattle.executive.proofs.TableLaws.{same_table, state_tasks, as_loaded_lem, state_sound}
@@ -221,7 +221,7 @@ given_when (r ∷ rest) tasks at g e k place =
     given_when rest after (suc at) (Trips.grown tasks at a g e (passed (length tasks) a none)) (omega arith) k place)
 
 pub list_when : Lists.ListWhen
-unfolding refused_load read_records
+unfolding read_records
 list_when list k place = go (eqb (length list % 48) 0) refl
   where
     go : (b : Bool) → eqb (length list % 48) 0 ≡ b
@@ -290,8 +290,8 @@ listed_so place r t times e =
     })
 
 pub list_table_lem : Lists.ListTable
-unfolding accepted_load state_of list_table task_at
-list_table_lem list h = subst (ListedTable list) (sym (ap (λ (l : Loaded). l.state) e.same)) made
+unfolding state_of list_table task_at
+list_table_lem list h = subst (ListedTable list) (sym (ap (λ (l : Reading). l.state) e.same)) made
   where
     e : Trips.Ended [] 0 (records_of list) (read_of list)
     e = Trips.read_ended list h
@@ -384,12 +384,12 @@ in_first tasks g i h =
     eqb-true t.queue 1 (both_left (eqb t.queue 1) (leb t.number (length tasks)) (every_at (lower (length tasks)) tasks g.lows i h blank_task))
 
 pub write_after_read : Lists.WriteAfterRead
-unfolding accepted_load state_of list_table outside_dp1
+unfolding state_of list_table outside_dp1
 write_after_read list bytes h buffer long =
     subst
     (λ (u : State). (list_number u (length buffer) ≡ 0)
     × (list_written u buffer ≡ flat (λ t. rounded (get_or (records_of list) (t.number - 1) []) t.cost t.period) (tasks_of u)))
-    (sym (ap (λ (l : Loaded). l.state) e.same)) made
+    (sym (ap (λ (l : Reading). l.state) e.same)) made
   where
     e : Trips.Ended [] 0 (records_of list) (read_of list)
     e = Trips.read_ended list h

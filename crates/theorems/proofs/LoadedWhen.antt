@@ -13,13 +13,17 @@ use Rattle.table.specs.declared.Board.{Board}
 use Rattle.table.specs.declared.Task.{Task}
 use Rattle.table.specs.declared.Sem.{Sem}
 use Rattle.table.specs.Entries.{blank_task}
+use Rattle.table.specs.Refusals.{number_of}
+use Rattle.table.proofs.RefusalLaws.{number_apart}
 use Rattle.table.specs.WellFormed.{task_before, sem_before, used}
 use Rattle.executive.specs.Tables.{Table, add_task, add_sem, add_board, state_of}
-use Rattle.records.specs.declared.Decoded.{Decoded}
-use Rattle.records.specs.declared.Decoded.TheVariants.{Erased, TaskRecord, BoardRecord, SemRecord, Refused}
+use Rattle.table.specs.declared.refusals.Refusal.{Refusal}
+use Rattle.table.specs.declared.refusals.Refusal.TheVariants.{UnknownKind, OutOfRange}
+use Rattle.records.specs.declared.Record.{Record}
+use Rattle.std.specs.Prelude.{Result, Ok, Err}
+use Rattle.records.specs.declared.Record.TheVariants.{Erased, Task as TaskRecord, Board as BoardRecord, Sem as SemRecord}
 use Rattle.records.specs.Records.{decoded}
 use Rattle.records.proofs.RecordLaws.{Plain, plain}
-use Rattle.executive.specs.Reading.{refused_load}
 use Rattle.image.specs.Loading.{
   fresh_table,
   taken,
@@ -45,21 +49,21 @@ use Rattle.theorems.proofs.FirstLaws.{nothing_more, test_says, first_that, eithe
 use Rattle.theorems.proofs.ReadingWhen.{Comes-with, same_load, end_when, step_when}
 
 -- each test of a record says what its condition says
-used_says : (erased : Bool) (d : Decoded) → (used_after erased d ≡ true) ↔ ((erased ≡ true) × (d ≢ Erased))
+used_says : (erased : Bool) (d : Result Record Refusal) → (used_after erased d ≡ true) ↔ ((erased ≡ true) × (d ≢ (Ok Erased)))
 unfolding used_after
-used_says erased Erased = (λ h. let z : ◌≡◌ {A = ℕ} 0 1 = cc in absurd (omega arith), λ w. absurd (w.1 refl))
-used_says erased (TaskRecord x) = (λ h. (h, λ e. let z : ◌≡◌ {A = ℕ} 0 1 = cc in omega arith), λ w. w.0)
-used_says erased (BoardRecord b) = (λ h. (h, λ e. let z : ◌≡◌ {A = ℕ} 0 1 = cc in omega arith), λ w. w.0)
-used_says erased (SemRecord x) = (λ h. (h, λ e. let z : ◌≡◌ {A = ℕ} 0 1 = cc in omega arith), λ w. w.0)
-used_says erased (Refused g) = (λ h. (h, λ e. let z : ◌≡◌ {A = ℕ} 0 1 = cc in omega arith), λ w. w.0)
+used_says erased (Ok Erased) = (λ h. let z : ◌≡◌ {A = ℕ} 0 1 = cc in absurd (omega arith), λ w. absurd (w.1 refl))
+used_says erased (Ok (TaskRecord x)) = (λ h. (h, λ e. let z : ◌≡◌ {A = ℕ} 0 1 = cc in omega arith), λ w. w.0)
+used_says erased (Ok (BoardRecord b)) = (λ h. (h, λ e. let z : ◌≡◌ {A = ℕ} 0 1 = cc in omega arith), λ w. w.0)
+used_says erased (Ok (SemRecord x)) = (λ h. (h, λ e. let z : ◌≡◌ {A = ℕ} 0 1 = cc in omega arith), λ w. w.0)
+used_says erased (Err why) = (λ h. (h, λ e. let z : ◌≡◌ {A = ℕ} 0 1 = cc in omega arith), λ w. w.0)
 
-refused_says : (k : ℕ) (d : Decoded) → (refused_as k d ≡ true) ↔ (d ≡ Refused k)
+refused_says : (why : Refusal) (d : Result Record Refusal) → (refused_as (number_of why) d ≡ true) ↔ (d ≡ Err why)
 unfolding refused_as
-refused_says k Erased = (λ h. let z : ◌≡◌ {A = ℕ} 0 1 = cc in absurd (omega arith), λ e. let z : ◌≡◌ {A = ℕ} 0 1 = cc in absurd (omega arith))
-refused_says k (TaskRecord x) = (λ h. let z : ◌≡◌ {A = ℕ} 0 1 = cc in absurd (omega arith), λ e. let z : ◌≡◌ {A = ℕ} 0 1 = cc in absurd (omega arith))
-refused_says k (BoardRecord b) = (λ h. let z : ◌≡◌ {A = ℕ} 0 1 = cc in absurd (omega arith), λ e. let z : ◌≡◌ {A = ℕ} 0 1 = cc in absurd (omega arith))
-refused_says k (SemRecord x) = (λ h. let z : ◌≡◌ {A = ℕ} 0 1 = cc in absurd (omega arith), λ e. let z : ◌≡◌ {A = ℕ} 0 1 = cc in absurd (omega arith))
-refused_says k (Refused g) = (λ h. ap Refused (eqb-true g k h), λ e. let same : g ≡ k = cc in eq-eqb g k same)
+refused_says why (Ok said) = (λ h. let z : ◌≡◌ {A = ℕ} 0 1 = cc in absurd (omega arith), λ e. let z : ◌≡◌ {A = ℕ} 0 1 = cc in absurd (omega arith))
+refused_says why (Err other) = (
+  λ h. ap (λ (r : Refusal). Err r) (number_apart other why (eqb-true (number_of other) (number_of why) h)),
+  λ e. let same : other ≡ why = cc in eq-eqb (number_of other) (number_of why) (ap number_of same),
+)
 
 -- one entry stands after another, or it does not
 module _ (y x : Task) where
@@ -121,25 +125,25 @@ stood_start : Stood fresh_table false 0
 unfolding fresh_table
 stood_start = record { first = λ h. (refl, refl, refl); later = λ h e. absurd (h refl) }
 
-stood_on : (t : Table) (e : Bool) (at : ℕ) (d : Decoded) → Plain d → Passed e t d → Stood (taken t d) (erased_after e d) (suc at)
+stood_on : (t : Table) (e : Bool) (at : ℕ) (d : Result Record Refusal) → Plain d → Passed e t d → Stood (taken t d) (erased_after e d) (suc at)
 unfolding taken add_task add_sem add_board erased_after refused_as
-stood_on t e at Erased plain p =
+stood_on t e at (Ok Erased) plain p =
     record { first = λ h. absurd (omega arith); later = λ h e. let z : ◌≡◌ {A = ℕ} 0 1 = cc in absurd (omega arith) }
-stood_on t e at (TaskRecord x) plain p =
+stood_on t e at (Ok (TaskRecord x)) plain p =
     record { first = λ h. absurd (omega arith); later = λ h e. let n = length-append t.tasks (x ∷ []) in inr (inl (omega arith)) }
-stood_on t e at (BoardRecord b) plain p = record { first = λ h. absurd (omega arith); later = λ h e. inl refl }
-stood_on t e at (SemRecord x) plain p =
+stood_on t e at (Ok (BoardRecord b)) plain p = record { first = λ h. absurd (omega arith); later = λ h e. inl refl }
+stood_on t e at (Ok (SemRecord x)) plain p =
     record { first = λ h. absurd (omega arith); later = λ h e. let n = length-append t.sems (x ∷ []) in inr (inr (omega arith)) }
-stood_on t e at (Refused k) plain p =
+stood_on t e at (Err why) plain p =
     elim plain [
-      | inl z ↦ absurd (eqb-false k 2 p.known z)
-      | inr z ↦ absurd (eqb-false k 4 p.in_range z)
+      | inl z ↦ absurd (eqb-false (number_of why) 2 p.known (ap number_of z))
+      | inr z ↦ absurd (eqb-false (number_of why) 4 p.in_range (ap number_of z))
     ]
 
 -- 5
 module _ (t : Table) (at : ℕ) where
   -- what is no entry breaks no order
-  unordered : (d : Decoded) → ((b : Board) → d ≢ BoardRecord b) → ((x : Task) → d ≢ TaskRecord x) → ((x : Sem) → d ≢ SemRecord x) → OrderBroken t at d → ⊥
+  unordered : (d : Result Record Refusal) → ((b : Board) → d ≢ Ok (BoardRecord b)) → ((x : Task) → d ≢ Ok (TaskRecord x)) → ((x : Sem) → d ≢ Ok (SemRecord x)) → OrderBroken t at d → ⊥
   unordered d no_board no_task no_sem w =
       elim w [ inl a ↦ no_board a.0 a.1 | inr v ↦ elim v [ inl b ↦ no_task b.0 b.1 | inr c ↦ no_sem c.0 c.1 ] ]
 
@@ -169,13 +173,13 @@ module _ (t : Table) (at : ℕ) where
         λ w. e.1 (elim w [ inl a ↦ inl (lt-ltb 0 (length t.sems) a) | inr b ↦ inr (f.1 b) ]),
       )
 
-  order_says : (e : Bool) → Stood t e at → (d : Decoded) → used_after e d ≡ false → (order_broken t d ≡ true) ↔ OrderBroken t at d
+  order_says : (e : Bool) → Stood t e at → (d : Result Record Refusal) → used_after e d ≡ false → (order_broken t d ≡ true) ↔ OrderBroken t at d
   unfolding order_broken used_after
-  order_says e stood Erased clear = (
+  order_says e stood (Ok Erased) clear = (
     λ h. let z : ◌≡◌ {A = ℕ} 0 1 = cc in absurd (omega arith),
-    λ w. absurd (unordered Erased (λ x e. let z : ◌≡◌ {A = ℕ} 0 1 = cc in omega arith) (λ x e. let z : ◌≡◌ {A = ℕ} 0 1 = cc in omega arith) (λ x e. let z : ◌≡◌ {A = ℕ} 0 1 = cc in omega arith) w),
+    λ w. absurd (unordered (Ok Erased) (λ x e. let z : ◌≡◌ {A = ℕ} 0 1 = cc in omega arith) (λ x e. let z : ◌≡◌ {A = ℕ} 0 1 = cc in omega arith) (λ x e. let z : ◌≡◌ {A = ℕ} 0 1 = cc in omega arith) w),
   )
-  order_says e stood (BoardRecord b) clear =
+  order_says e stood (Ok (BoardRecord b)) clear =
       let says = board_says e stood clear in (
         λ h. inl (b, refl, says.0 h),
         λ w. elim w [
@@ -186,7 +190,7 @@ module _ (t : Table) (at : ℕ) where
           ]
         ],
       )
-  order_says e stood (TaskRecord x) clear = (
+  order_says e stood (Ok (TaskRecord x)) clear = (
     λ h. inr (inl (x, refl, (task_order_lem x).0 h)),
     λ w. elim w [
       | inl a ↦ let e = a.1 in let z : ◌≡◌ {A = ℕ} 0 1 = cc in absurd (omega arith)
@@ -198,7 +202,7 @@ module _ (t : Table) (at : ℕ) where
       ]
     ],
   )
-  order_says e stood (SemRecord x) clear =
+  order_says e stood (Ok (SemRecord x)) clear =
       let f = follows_says sem_before (λ x y. x.number ≤ y.number) sem_says t.sems x in (
         λ h. inr (inr (x, refl, f.0 h)),
         λ w. elim w [
@@ -211,9 +215,9 @@ module _ (t : Table) (at : ℕ) where
           ]
         ],
       )
-  order_says e stood (Refused k) clear = (
+  order_says e stood (Err why) clear = (
     λ h. let z : ◌≡◌ {A = ℕ} 0 1 = cc in absurd (omega arith),
-    λ w. absurd (unordered (Refused k) (λ x e. let z : ◌≡◌ {A = ℕ} 0 1 = cc in omega arith) (λ x e. let z : ◌≡◌ {A = ℕ} 0 1 = cc in omega arith) (λ x e. let z : ◌≡◌ {A = ℕ} 0 1 = cc in omega arith) w),
+    λ w. absurd (unordered (Err why) (λ x e. let z : ◌≡◌ {A = ℕ} 0 1 = cc in omega arith) (λ x e. let z : ◌≡◌ {A = ℕ} 0 1 = cc in omega arith) (λ x e. let z : ◌≡◌ {A = ℕ} 0 1 = cc in omega arith) w),
   )
 
 -- 8
@@ -222,52 +226,52 @@ unfolding used
 used_so tasks number =
     some_says (λ t. eqb t.number number) (λ t. t.number ≡ number) (λ t. (eqb-true t.number number, eq-eqb t.number number)) blank_task tasks
 
-twice_says : (t : Table) (d : Decoded) → (number_twice t d ≡ true) ↔ NumberTwice t d
+twice_says : (t : Table) (d : Result Record Refusal) → (number_twice t d ≡ true) ↔ NumberTwice t d
 unfolding number_twice
-twice_says t Erased = (λ h. let z : ◌≡◌ {A = ℕ} 0 1 = cc in absurd (omega arith), λ w. let e = w.1 in let z : ◌≡◌ {A = ℕ} 0 1 = cc in absurd (omega arith))
-twice_says t (TaskRecord y) = (
+twice_says t (Ok Erased) = (λ h. let z : ◌≡◌ {A = ℕ} 0 1 = cc in absurd (omega arith), λ w. let e = w.1 in let z : ◌≡◌ {A = ℕ} 0 1 = cc in absurd (omega arith))
+twice_says t (Ok (TaskRecord y)) = (
   λ h. (y, refl, (used_so t.tasks y.number).0 h),
   λ w. let e = w.1 in let same : y ≡ w.0 = cc in ap (λ (x : Task). used x.number t.tasks) same ∙ (used_so t.tasks w.0.number).1 w.2,
 )
-twice_says t (BoardRecord b) = (λ h. let z : ◌≡◌ {A = ℕ} 0 1 = cc in absurd (omega arith), λ w. let e = w.1 in let z : ◌≡◌ {A = ℕ} 0 1 = cc in absurd (omega arith))
-twice_says t (SemRecord x) = (λ h. let z : ◌≡◌ {A = ℕ} 0 1 = cc in absurd (omega arith), λ w. let e = w.1 in let z : ◌≡◌ {A = ℕ} 0 1 = cc in absurd (omega arith))
-twice_says t (Refused g) = (λ h. let z : ◌≡◌ {A = ℕ} 0 1 = cc in absurd (omega arith), λ w. let e = w.1 in let z : ◌≡◌ {A = ℕ} 0 1 = cc in absurd (omega arith))
+twice_says t (Ok (BoardRecord b)) = (λ h. let z : ◌≡◌ {A = ℕ} 0 1 = cc in absurd (omega arith), λ w. let e = w.1 in let z : ◌≡◌ {A = ℕ} 0 1 = cc in absurd (omega arith))
+twice_says t (Ok (SemRecord x)) = (λ h. let z : ◌≡◌ {A = ℕ} 0 1 = cc in absurd (omega arith), λ w. let e = w.1 in let z : ◌≡◌ {A = ℕ} 0 1 = cc in absurd (omega arith))
+twice_says t (Err why) = (λ h. let z : ◌≡◌ {A = ℕ} 0 1 = cc in absurd (omega arith), λ w. let e = w.1 in let z : ◌≡◌ {A = ℕ} 0 1 = cc in absurd (omega arith))
 
 -- 6: what is neither a task nor a semaphore is not one too many
-few : (t : Table) (d : Decoded) → ((x : Task) → d ≢ TaskRecord x) → ((x : Sem) → d ≢ SemRecord x) → TooMany t d → ⊥
+few : (t : Table) (d : Result Record Refusal) → ((x : Task) → d ≢ Ok (TaskRecord x)) → ((x : Sem) → d ≢ Ok (SemRecord x)) → TooMany t d → ⊥
 few t d no_task no_sem (inl w) = no_task w.0 w.1
 few t d no_task no_sem (inr w) = no_sem w.0 w.1
 
-many_says : (t : Table) (d : Decoded) → (too_many t d ≡ true) ↔ TooMany t d
+many_says : (t : Table) (d : Result Record Refusal) → (too_many t d ≡ true) ↔ TooMany t d
 unfolding too_many
-many_says t Erased = (
+many_says t (Ok Erased) = (
   λ h. let z : ◌≡◌ {A = ℕ} 0 1 = cc in absurd (omega arith),
-  λ w. absurd (few t Erased (λ x e. let z : ◌≡◌ {A = ℕ} 0 1 = cc in omega arith) (λ x e. let z : ◌≡◌ {A = ℕ} 0 1 = cc in omega arith) w),
+  λ w. absurd (few t (Ok Erased) (λ x e. let z : ◌≡◌ {A = ℕ} 0 1 = cc in omega arith) (λ x e. let z : ◌≡◌ {A = ℕ} 0 1 = cc in omega arith) w),
 )
-many_says t (TaskRecord y) = (
+many_says t (Ok (TaskRecord y)) = (
   λ h. inl (y, refl, leb-true 64 (length t.tasks) h),
   λ w. elim w [ inl v ↦ le-leb 64 (length t.tasks) v.2 | inr v ↦ let e = v.1 in let z : ◌≡◌ {A = ℕ} 0 1 = cc in absurd (omega arith) ],
 )
-many_says t (BoardRecord b) = (
+many_says t (Ok (BoardRecord b)) = (
   λ h. let z : ◌≡◌ {A = ℕ} 0 1 = cc in absurd (omega arith),
-  λ w. absurd (few t (BoardRecord b) (λ x e. let z : ◌≡◌ {A = ℕ} 0 1 = cc in omega arith) (λ x e. let z : ◌≡◌ {A = ℕ} 0 1 = cc in omega arith) w),
+  λ w. absurd (few t (Ok (BoardRecord b)) (λ x e. let z : ◌≡◌ {A = ℕ} 0 1 = cc in omega arith) (λ x e. let z : ◌≡◌ {A = ℕ} 0 1 = cc in omega arith) w),
 )
-many_says t (SemRecord y) = (
+many_says t (Ok (SemRecord y)) = (
   λ h. inr (y, refl, leb-true 16 (length t.sems) h),
   λ w. elim w [ inl v ↦ let e = v.1 in let z : ◌≡◌ {A = ℕ} 0 1 = cc in absurd (omega arith) | inr v ↦ le-leb 16 (length t.sems) v.2 ],
 )
-many_says t (Refused g) = (
+many_says t (Err why) = (
   λ h. let z : ◌≡◌ {A = ℕ} 0 1 = cc in absurd (omega arith),
-  λ w. absurd (few t (Refused g) (λ x e. let z : ◌≡◌ {A = ℕ} 0 1 = cc in omega arith) (λ x e. let z : ◌≡◌ {A = ℕ} 0 1 = cc in omega arith) w),
+  λ w. absurd (few t (Err why) (λ x e. let z : ◌≡◌ {A = ℕ} 0 1 = cc in omega arith) (λ x e. let z : ◌≡◌ {A = ℕ} 0 1 = cc in omega arith) w),
 )
 
-record_when : (t : Table) (e : Bool) (at : ℕ) → Stood t e at → (d : Decoded) (k : ℕ) → (refusal_of e t d ≡ k) ↔ FirstThat (record_conditions t e at d) k
+record_when : (t : Table) (e : Bool) (at : ℕ) → Stood t e at → (d : Result Record Refusal) (k : ℕ) → (refusal_of e t d ≡ k) ↔ FirstThat (record_conditions t e at d) k
 unfolding refusal_of
 record_when t e at stood d k =
     first_that
     (test_says (used_says e d)
-    (λ clear. test_says (refused_says 2 d)
-    (λ b. test_says (refused_says 4 d)
+    (λ clear. test_says (refused_says UnknownKind d)
+    (λ b. test_says (refused_says OutOfRange d)
     (λ c. test_says (order_says t at e stood d clear)
     (λ g. test_says (twice_says t d)
     (λ l. test_says (many_says t d) (λ m. nothing_more))))))) k
@@ -294,7 +298,7 @@ length_says bytes =
 
 image_when : (image : List ℕ) (k place : ℕ) (bad : Bool) → bad_length (length image) ≡ bad
     → Comes-with (load_of image) k place ↔ GivenFor image k place
-unfolding refused_load load_records
+unfolding load_records
 image_when image k place true e =
     let l = load_bad image e in (
       λ h. let g = same_load l h in inl ((length_says (length image)).0 e, sym g.0, sym g.1),

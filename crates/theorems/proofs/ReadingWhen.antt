@@ -11,22 +11,21 @@ use borrow.Author.Tests.{eqb-true, eqb-false}
 use Rattle.table.specs.Refusals.{answered}
 use Rattle.table.proofs.RefusalLaws.{answered_refused, answered_done}
 use Rattle.executive.specs.declared.state.State.{State}
-use Rattle.executive.specs.declared.loaded.Loaded.{Loaded}
-use Rattle.executive.specs.Reading.{refused_load, accepted_load, finished_load}
+use Rattle.executive.specs.Reading.{Reading}
+use Rattle.executive.specs.Reading.{refused_load, finished_load}
 use Rattle.executive.proofs.ReadingLaws.{finished_none, finished_some}
 use Rattle.theorems.specs.When.{FirstThat}
 
-abbrev pub Comes-with : Loaded → ℕ → ℕ → Type 0
+abbrev pub Comes-with : Reading → ℕ → ℕ → Type 0
 Comes-with l k place = (l.number ≡ k) × (l.place ≡ place)
 
 -- what a load gives, and an equal load
-pub same_load : {l m : Loaded} → l ≡ m → {k place : ℕ} → Comes-with l k place → Comes-with m k place
-same_load e h = (sym (ap (λ (x : Loaded). x.number) e) ∙ h.0, sym (ap (λ (x : Loaded). x.place) e) ∙ h.1)
+pub same_load : {l m : Reading} → l ≡ m → {k place : ℕ} → Comes-with l k place → Comes-with m k place
+same_load e h = (sym (ap (λ (x : Reading). x.number) e) ∙ h.0, sym (ap (λ (x : Reading). x.place) e) ∙ h.1)
 
 -- behind the last record
 module _ (s : State) (at k place : ℕ) where
   pub end_when : Comes-with (finished_load s at) k place ↔ (((s.n ≡ 0) × (k ≡ 7) × (place ≡ at)) ⊎ ((s.n ≢ 0) × (k ≡ 0) × (place ≡ 0)))
-  unfolding refused_load accepted_load
   end_when = go (eqb s.n 0) refl
     where
       go : (none : Bool) → eqb s.n 0 ≡ none
@@ -45,11 +44,10 @@ module _ (s : State) (at k place : ℕ) where
           )
 
 -- one record: its first condition that holds stops the reading, or what follows decides
-module _ (refusal at : ℕ) (conditions : List (ℕ × Type 0)) (behind : Loaded) (Rest : Type 0) (k place : ℕ) where
+module _ (refusal at : ℕ) (conditions : List (ℕ × Type 0)) (behind : Reading) (Rest : Type 0) (k place : ℕ) where
   pub step_when : ((j : ℕ) → (refusal ≡ j) ↔ FirstThat conditions j) → (refusal ≡ 0 → Comes-with behind k place ↔ Rest)
       → Comes-with (answered refusal (λ number. refused_load number at) behind) k place
       ↔ (((k ≢ 0) × FirstThat conditions k × (place ≡ at)) ⊎ (FirstThat conditions 0 × Rest))
-  unfolding refused_load
   step_when when rest-when = go (eqb refusal 0) refl
     where
       go : (b : Bool) → eqb refusal 0 ≡ b

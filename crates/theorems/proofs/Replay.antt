@@ -7,7 +7,7 @@ use mathlib.Core.Bool.{Bool, true, false, cond}
 use mathlib.Core.List.{List, [], ◌∷◌}
 use native.Mathlib.Omega.{arith}
 use Rattle.executive.specs.declared.state.State.{State}
-use Rattle.executive.specs.declared.calls.Moved.{Moved}
+use Rattle.executive.specs.Calls.{Step}
 use Rattle.kept.proofs.RefusedLaws.{
   Same,
   release_same,
@@ -21,7 +21,7 @@ use Rattle.kept.proofs.RefusedLaws.{
 use Rattle.theorems.specs.Histories.{Call, release, signal, withdraw, acquire, give, complete, block, called, after, answers_to, is_accepted, accepted_of, accepted_numbers}
 
 -- done, or waiting, or the very state
-accepted_or_same : (s : State) (m : Moved) → ((m.answer ≡ 90) ⊎ Same s m) → is_accepted m.answer ≡ false → m.state ≡ s
+accepted_or_same : (s : State) (m : Step) → ((m.answer ≡ 90) ⊎ Same s m) → is_accepted m.answer ≡ false → m.state ≡ s
 unfolding is_accepted
 accepted_or_same s m (inl e) h = let z : ◌≡◌ {A = ℕ} 0 1 = let t = rw e at h in cc in absurd (omega arith)
 accepted_or_same s m (inr (inl e)) h = let z : ◌≡◌ {A = ℕ} 0 1 = let t = rw e at h in cc in absurd (omega arith)

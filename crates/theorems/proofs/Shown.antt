@@ -1,5 +1,6 @@
 -- The user's three demands, shown: each statement of specs/Demands.antt under its name in lower case.
 -- Assumes nothing.
+use Rattle.std.specs.Prelude.{Option, Some, None}
 use Prim.Native.Nat.{ℕ, ◌%◌, ◌<◌}
 use mathlib.Core.Path.{◌≡◌, refl, sym, ap, subst, ◌∙◌}
 use mathlib.Core.Logic.{◌↔◌, ◌≢◌, ◌⊎◌, inl, inr}
@@ -13,8 +14,6 @@ use Rattle.table.proofs.RefusalLaws.{answered_refused}
 use Rattle.executive.specs.declared.state.State.{State}
 use Rattle.executive.specs.States.{tasks_of, sems_of}
 use Rattle.executive.specs.Sound.{Sound}
-use Rattle.table.specs.declared.Found.{Found}
-use Rattle.table.specs.declared.Found.TheVariants.{At, Nothing}
 use Rattle.waits.specs.declared.standing.Rank.{Rank}
 use Rattle.waits.specs.Standing.{standing_of, running_of, number_at}
 use Rattle.waits.specs.Reaches.{IsStanding}
@@ -152,11 +151,11 @@ runs_best s h i e =
     (runs_below s sound i e, b.passes, λ j k r. b.best j (omega arith) r)
 
 -- the answer of running is 0 exactly if nobody runs: a task's number is not 0
-runs_zero : (s : State) → Sound s → (f : Found) → running_of (tasks_of s) (sems_of s) ≡ f
-    → (number_at (tasks_of s) (running_of (tasks_of s) (sems_of s)) ≡ 0) ↔ (running_of (tasks_of s) (sems_of s) ≡ Nothing)
+runs_zero : (s : State) → Sound s → (f : Option ℕ) → running_of (tasks_of s) (sems_of s) ≡ f
+    → (number_at (tasks_of s) (running_of (tasks_of s) (sems_of s)) ≡ 0) ↔ (running_of (tasks_of s) (sems_of s) ≡ None)
 unfolding number_at
-runs_zero s sound Nothing q = (λ e. q, λ e. rw q)
-runs_zero s sound (At i) q = (
+runs_zero s sound None q = (λ e. q, λ e. rw q)
+runs_zero s sound (Some i) q = (
   λ e.
       let r = (ranges s sound i (runs_below s sound i q)).number_least in
       let n = sym (ap (number_at (tasks_of s)) q) ∙ e in

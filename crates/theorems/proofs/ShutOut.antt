@@ -6,6 +6,7 @@
 --     state_moves           in P10 no task runs before the first call, and 11 after it
 --     later_waiter_counts   11 holds what 9 waits for, and has the standing of 9; 7 must wait for it too, and 11 has the standing of 7
 -- Assumes nothing.
+use Rattle.std.specs.Prelude.{Some}
 use Prim.Native.Nat.{ℕ}
 use mathlib.Core.Path.{◌≡◌, refl, sym, ap, ◌∙◌}
 use mathlib.Core.Bool.{true}
@@ -13,16 +14,15 @@ use mathlib.Core.List.{List, [], ◌∷◌, ◌++◌}
 use native.Mathlib.Omega.{arith}
 use lib.ListN.{get_or}
 use Rattle.table.specs.declared.Task.{Task}
-use Rattle.table.specs.declared.Found.TheVariants.{At}
 use Rattle.table.specs.Entries.{no_figures}
 use Rattle.table.specs.Refusals.{first_of, answered}
-use Rattle.table.specs.Sums.{any}
-use Rattle.table.specs.Places.{first_place, task_place, sem_place}
+use Rattle.std.specs.Prelude.{position}
+use Rattle.table.specs.Places.{task_place, sem_place}
 use Rattle.table.specs.WellFormed.{within, due_in_range, task_in_range, sem_in_range, board_in_range, task_before, sem_before, used}
 use Rattle.executive.specs.declared.state.State.{State}
-use Rattle.executive.specs.declared.standing.Stands.{Stands}
+use Rattle.executive.specs.Calls.{Stands}
 use Rattle.executive.specs.States.{tasks_of, sems_of}
-use Rattle.waits.specs.Waits.{task_at, sem_at, waits_for, held_by, holder_of, waits_on}
+use Rattle.waits.specs.Waits.{task_at, sem_at, waits_for, holder_of, waits_on}
 use Rattle.waits.specs.Standing.{
   shown_deadline,
   own_of,
@@ -61,9 +61,9 @@ use Rattle.executive.specs.Calls.{
   stands_of,
 }
 use Rattle.fields.specs.Fields.{value_of, bytes_of, read_at, all_are}
-use Rattle.records.specs.Records.{task_in, board_in, sem_in, unless_out_of_range, task_decoded, board_decoded, sem_decoded, decoded, encode_task, encode_board, encode_sem}
+use Rattle.records.specs.Records.{task_in, board_in, sem_in, task_decoded, board_decoded, sem_decoded, decoded, encode_task, encode_board, encode_sem}
 use Rattle.executive.specs.Tables.{Table, add_task, add_sem, add_board, state_of}
-use Rattle.executive.specs.Reading.{accepted_load, finished_load}
+use Rattle.executive.specs.Reading.{finished_load}
 use Rattle.image.specs.Loading.{fresh_table, taken, erased_after, used_after, refused_as, follows, order_broken, number_twice, too_many, refusal_of, load_from, load_records, bad_length, load_of}
 use Rattle.fields.specs.Parts.{parts_of, flat}
 use Rattle.image.specs.Writing.{encoded}
@@ -84,7 +84,7 @@ abbrev table_of_p1 : Table
 table_of_p1 = record { tasks = two 1000; sems = []; board = no_figures; present = true }
 
 p1_loads : (load_of (encoded table_of_p1)).number ≡ 0
-unfolding first_of answered any within due_in_range task_in_range board_in_range task_before used value_of bytes_of read_at all_are task_in board_in unless_out_of_range task_decoded board_decoded decoded encode_task encode_board fresh_table taken add_task add_sem add_board erased_after used_after refused_as follows order_broken number_twice too_many refusal_of state_of accepted_load finished_load load_from load_records parts_of bad_length load_of flat encoded
+unfolding first_of answered within due_in_range task_in_range board_in_range task_before used value_of bytes_of read_at all_are task_in board_in task_decoded board_decoded decoded encode_task encode_board fresh_table taken add_task add_sem add_board erased_after used_after refused_as follows order_broken number_twice too_many refusal_of state_of finished_load load_from load_records parts_of bad_length load_of flat encoded
 p1_loads = refl
 
 pub loader_accepts : RefusesAll load_of → ⊥
@@ -141,13 +141,13 @@ fp position = record { number = 0; queue = 3; deadline = 0; position = position 
 -- no task runs in the loaded state. After those calls 9, at position 1, waits on the task at position 2, which holds 1 and is 11; one more that
 -- acquires 1 must wait; and the standing of 11 before that and after
 computed : (runs (loaded three) ≡ 0)
-    × (waits_on (tasks_of now) (sems_of now) 1 ≡ At 2)
-    × (holder_of (sems_of now) (sem_place (sems_of now) 1) ≡ At 2)
+    × (waits_on (tasks_of now) (sems_of now) 1 ≡ Some 2)
+    × (holder_of (sems_of now) (sem_place (sems_of now) 1) ≡ Some 2)
     × ((called now (acquire 1)).answer ≡ 90)
     × ((task_at (tasks_of now) 2).number ≡ 11)
     × (standing_after three waited 11 ≡ fp 1)
     × (standing_after three (waited ++ (acquire 1 ∷ [])) 11 ≡ fp 0)
-unfolding first_of answered any first_place task_place sem_place within due_in_range task_in_range sem_in_range task_before sem_before used tasks_of sems_of task_at sem_at waits_for held_by holder_of waits_on shown_deadline own_of better found_and passes reaches preferred best_among found_or standing_of is_idle is_ready ready_at running_of number_at with_tasks with_sems with_last now_does now_held moved on_task is_none busy untimely closes_ring release_at take_or_wait acquire_at release_of acquire_of value_of bytes_of read_at all_are task_in sem_in unless_out_of_range task_decoded sem_decoded decoded encode_task encode_sem fresh_table taken add_task add_sem add_board erased_after used_after refused_as follows order_broken number_twice too_many refusal_of state_of accepted_load finished_load load_from load_records parts_of bad_length load_of flat encoded called after loaded runs shown stands_of standing_after
+unfolding first_of answered task_place sem_place within due_in_range task_in_range sem_in_range task_before sem_before used tasks_of sems_of task_at sem_at waits_for holder_of waits_on shown_deadline own_of better found_and passes reaches preferred best_among found_or standing_of is_idle is_ready ready_at running_of number_at with_tasks with_sems with_last now_does now_held moved on_task is_none busy untimely closes_ring release_at take_or_wait acquire_at release_of acquire_of value_of bytes_of read_at all_are task_in sem_in task_decoded sem_decoded decoded encode_task encode_sem fresh_table taken add_task add_sem add_board erased_after used_after refused_as follows order_broken number_twice too_many refusal_of state_of finished_load load_from load_records parts_of bad_length load_of flat encoded called after loaded runs shown stands_of standing_after
 computed = (refl, refl, refl, refl, refl, refl, refl)
 
 pub state_moves : NeverMoves called → ⊥

@@ -1,5 +1,6 @@
 -- The sentences of 02, a), shown: each statement of specs/Spans.antt under its name in lower case.
 -- Assumes nothing.
+use Rattle.std.specs.Prelude.{Err, Ok, Result, Some}
 use Prim.Native.Nat.{ℕ, zero, suc, ◌+◌, ◌/◌}
 use mathlib.Core.Path.{◌≡◌, refl, sym, ap, subst, ◌∙◌}
 use mathlib.Core.Bool.{Bool, true, false, cond, not, ◌&&◌, ◌||◌}
@@ -16,12 +17,11 @@ use Rattle.table.specs.Refusals.{first_of, answered}
 use Rattle.table.specs.Sums.{every}
 use Rattle.table.specs.Places.{task_place}
 use Rattle.table.specs.WellFormed.{task_in_range, sem_in_range, board_in_range}
-use Rattle.table.specs.declared.Found.TheVariants.{At}
 use Rattle.table.proofs.OrderLaws.{span_range, span_none}
-use Rattle.table.proofs.SumLaws.{both, both_left, both_right, either_way, every_append, at_map}
+use Rattle.table.proofs.SumLaws.{both, both_left, both_right, either_way, every_append}
 use Rattle.waits.specs.Waits.{task_at}
 use Rattle.waits.specs.Standing.{shown_deadline, own_of}
-use Rattle.executive.specs.declared.calls.Moved.{Moved}
+use Rattle.executive.specs.Calls.{Step}
 use Rattle.executive.specs.States.{tasks_of, empty_state}
 use Rattle.executive.specs.Sound.{Sound}
 use Rattle.executive.specs.Calls.{with_last, busy, untimely, moved, release_at, release_of}
@@ -31,12 +31,16 @@ use Rattle.executive.proofs.LookupLaws.{task_found}
 use Rattle.executive.proofs.SoundLaws.{ranges}
 use Rattle.executive.proofs.TableLaws.{state_tasks}
 use Rattle.kept.proofs.KeepLaws.{task_set_same}
-use Rattle.records.specs.declared.Decoded.{Decoded}
-use Rattle.records.specs.declared.Decoded.TheVariants.{Erased, TaskRecord, BoardRecord, SemRecord, Refused}
-use Rattle.records.specs.Records.{task_in, board_in, sem_in, unless_out_of_range, task_decoded, board_decoded, sem_decoded, decoded}
-use Rattle.judging.specs.Columns.{at, columns_of}
+use Rattle.table.specs.declared.refusals.Refusal.{Refusal}
+use Rattle.table.specs.declared.refusals.Refusal.TheVariants.{UnknownKind, OutOfRange}
+use Rattle.records.specs.declared.Record.{Record}
+use Rattle.records.specs.declared.Record.TheVariants.{Erased, Task as TaskRecord, Board as BoardRecord, Sem as SemRecord}
+use Rattle.records.specs.Records.{task_in, board_in, sem_in, task_decoded, board_decoded, sem_decoded, decoded}
+use Rattle.judging.specs.Rows.{row_at, row_of, rows_of}
+use Rattle.judging.specs.declared.Row.{Row}
 use Rattle.judging.specs.Demands.{demand_fp, TimeUpTo}
-use Rattle.executive.specs.declared.loaded.Loaded.{Loaded}
+use Rattle.judging.proofs.RowLaws.{row_is}
+use Rattle.executive.specs.Reading.{Reading}
 use Rattle.executive.specs.Reading.{refused_load, accepted_load, finished_load}
 use Rattle.image.specs.Loading.{
   fresh_table,
@@ -62,10 +66,10 @@ pub span_fits : Spans.SpanFits
 span_fits s h i below = span_range (task_at (tasks_of s) i) (ranges s (comes_sound s h) i below)
 
 pub searched_to : Spans.SearchedTo
-unfolding columns_of task_at
+unfolding row_of task_at
 searched_to tasks board i below =
-    let e : at (columns_of tasks board).spans i ≡ span_of (task_at tasks i) = at_map span_of tasks i blank_task below in
-    let up_to : ℕ → Type 0 = TimeUpTo (demand_fp (columns_of tasks board) i) in
+    let e : (row_at (rows_of tasks board) i).span ≡ span_of (task_at tasks i) = ap (λ (r : Row). r.span) (row_is tasks board i below) in
+    let up_to : ℕ → Type 0 = TimeUpTo (demand_fp (rows_of tasks board) i) in
     (subst up_to e, subst up_to (sym e))
 
 pub release_adds : Spans.ReleaseAdds
@@ -81,7 +85,7 @@ release_adds s h i below time accepted = which (eqb (first_of (refusals t)) 0) r
     refusals : Task → List (ℕ × Bool)
     refusals u = (23, busy u) ∷ (22, untimely s.last time) ∷ []
 
-    place : task_place (tasks_of s) t.number ≡ At i
+    place : task_place (tasks_of s) t.number ≡ Some i
     place = task_found s sound i below
 
     adds : (task_at (tasks_of (release_at s i time)) i).deadline ≡ time + span_of t
@@ -91,14 +95,14 @@ release_adds s h i below time accepted = which (eqb (first_of (refusals t)) 0) r
 
     which : (b : Bool) → eqb (first_of (refusals t)) 0 ≡ b → (task_at (tasks_of (release_of s t.number time).state) i).deadline ≡ time + span_of t
     which true e =
-        ap (λ (m : Moved). (task_at (tasks_of m.state) i).deadline)
+        ap (λ (m : Step). (task_at (tasks_of m.state) i).deadline)
         (on_done s t.number refusals (λ i. release_at s i time) i place t refl (eqb-true (first_of (refusals t)) 0 e))
         ∙ adds
     which false e =
         let ne = eqb-false (first_of (refusals t)) 0 e in
         absurd
         (ne
-        (sym (ap (λ (m : Moved). m.answer) (on_refused s t.number refusals (λ i. release_at s i time) i place t refl (first_of (refusals t)) refl ne))
+        (sym (ap (λ (m : Step). m.answer) (on_refused s t.number refusals (λ i. release_at s i time) i place t refl (first_of (refusals t)) refl ne))
         ∙ accepted))
 
 pub by_position : Spans.ByPosition
@@ -117,39 +121,39 @@ NoDue tasks = every no_due tasks ≡ true
 
 -- one record more
 taken_old : (t : Table) (r : List ℕ) → NoDue t.tasks → old_record r ≡ true → NoDue (taken t (decoded r)).tasks
-unfolding decoded task_decoded board_decoded sem_decoded unless_out_of_range taken add_task add_sem add_board old_record task_in read_at value_of every no_due NoDue
-taken_old t r h old = either_way After (all_are 255 r) Erased (others (eqb (get_or r 0 0) 1)) h (first (eqb (get_or r 0 0) 1) old)
+unfolding decoded task_decoded board_decoded sem_decoded taken add_task add_sem add_board old_record task_in read_at value_of no_due NoDue
+taken_old t r h old = either_way After (all_are 255 r) (Ok Erased) (others (eqb (get_or r 0 0) 1)) h (first (eqb (get_or r 0 0) 1) old)
   where
-    After : Decoded → Type 0
+    After : Result Record Refusal → Type 0
     After d = NoDue (taken t d).tasks
 
-    others : Bool → Decoded
-    others task = cond task (task_decoded r) (cond (eqb (get_or r 0 0) 2) (board_decoded r) (cond (eqb (get_or r 0 0) 3) (sem_decoded r) (Refused 2)))
+    others : Bool → Result Record Refusal
+    others task = cond task (task_decoded r) (cond (eqb (get_or r 0 0) 2) (board_decoded r) (cond (eqb (get_or r 0 0) 3) (sem_decoded r) (Err UnknownKind)))
 
     first : (task : Bool) → (not task || all_are 0 (take 4 (drop 12 r))) ≡ true → After (others task)
     first true zeros =
         let due : no_due (task_in r) ≡ true = eq-eqb (value_of (take 4 (drop 12 r))) 0 (value_zeros (take 4 (drop 12 r)) zeros) in
-        either_way After (task_in_range (task_in r) && all_are 0 (drop 16 r)) (TaskRecord (task_in r)) (Refused 4)
+        either_way After (task_in_range (task_in r) && all_are 0 (drop 16 r)) (Ok (TaskRecord (task_in r))) (Err OutOfRange)
         (every_append no_due t.tasks (task_in r ∷ [])
         ∙ both (every no_due t.tasks) (every no_due (task_in r ∷ [])) h (both (no_due (task_in r)) true due refl))
         h
     first false zeros =
-        either_way After (eqb (get_or r 0 0) 2) (board_decoded r) (cond (eqb (get_or r 0 0) 3) (sem_decoded r) (Refused 2))
-        (either_way After (eqb (get_or r 1 0) 0 && board_in_range (board_in r) && all_are 0 (drop 20 r)) (BoardRecord (board_in r)) (Refused 4) h h)
-        (either_way After (eqb (get_or r 0 0) 3) (sem_decoded r) (Refused 2)
-        (either_way After (eqb (get_or r 1 0) 0 && sem_in_range (sem_in r) && all_are 0 (drop 4 r)) (SemRecord (sem_in r)) (Refused 4) h h) h)
+        either_way After (eqb (get_or r 0 0) 2) (board_decoded r) (cond (eqb (get_or r 0 0) 3) (sem_decoded r) (Err UnknownKind))
+        (either_way After (eqb (get_or r 1 0) 0 && board_in_range (board_in r) && all_are 0 (drop 20 r)) (Ok (BoardRecord (board_in r))) (Err OutOfRange) h h)
+        (either_way After (eqb (get_or r 0 0) 3) (sem_decoded r) (Err UnknownKind)
+        (either_way After (eqb (get_or r 1 0) 0 && sem_in_range (sem_in r) && all_are 0 (drop 4 r)) (Ok (SemRecord (sem_in r))) (Err OutOfRange) h h) h)
 
 -- what a load hands back, refused or not
-Old : Loaded → Type 0
+Old : Reading → Type 0
 Old l = NoDue (tasks_of l.state)
 
-answered_old : (k at : ℕ) (done : Loaded) → Old done → Old (answered k (λ k. refused_load k at) done)
+answered_old : (k at : ℕ) (done : Reading) → Old done → Old (answered k (λ k. refused_load k at) done)
 unfolding answered Old
 answered_old k at done h =
-    either_way Old (eqb k 0) done (refused_load k at) h (unfold refused_load empty_state tasks_of every NoDue in refl)
+    either_way Old (eqb k 0) done (refused_load k at) h (unfold empty_state tasks_of NoDue in refl)
 
 loaded_old : (rest : List (List ℕ)) (t : Table) (erased : Bool) (at : ℕ) → NoDue t.tasks → every old_record rest ≡ true → Old (load_from t erased at rest)
-unfolding load_from finished_load accepted_load every Old
+unfolding load_from finished_load Old
 loaded_old [] t erased at h old = answered_old (first_of ((7, eqb (state_of t).n 0) ∷ [])) at (accepted_load (state_of t)) (subst NoDue (sym (state_tasks t)) h)
 loaded_old (r ∷ rest) t erased at h old =
     let d = decoded r in
@@ -159,7 +163,7 @@ loaded_old (r ∷ rest) t erased at h old =
 
 -- behind the tasks that there are stand blank ones, which have none either
 due_none : (tasks : List Task) (i : ℕ) → NoDue tasks → (get_or tasks i blank_task).due ≡ 0
-unfolding every NoDue no_due
+unfolding NoDue no_due
 due_none [] i h = refl
 due_none (t ∷ rest) zero h = eqb-true t.due 0 (both_left (eqb t.due 0) (every no_due rest) h)
 due_none (t ∷ rest) (suc i) h = due_none rest i (both_right (eqb t.due 0) (every no_due rest) h)
@@ -170,7 +174,7 @@ old_images image old i below =
     let records = records_in (length image / 32) image in
     let whole : Old (load_of image) =
     answered_old (first_of ((1, bad_length (length image)) ∷ [])) 0 (load_records image)
-    (loaded_old records fresh_table false 0 (unfold fresh_table every NoDue in refl) old)
+    (loaded_old records fresh_table false 0 (unfold fresh_table NoDue in refl) old)
     in
     let tasks = tasks_of (load_of image).state in
     span_none (task_at tasks i) (due_none tasks i whole)

@@ -1,6 +1,7 @@
 -- Demand 3, second half. A task that waits differs from the same task ready in its status alone, and no release or signal looks at more of it than
 -- that it is neither idle nor waiting for an event. So the two states stay apart in that one entry until the withdrawal joins them.
 -- Assumes nothing.
+use Rattle.std.specs.Prelude.{Option, Some, None, position}
 use Prim.Native.Nat.{ℕ, ◌+◌, ◌≤◌, ◌<◌}
 use mathlib.Core.Path.{◌≡◌, refl, sym, ap, subst, ◌∙◌}
 use mathlib.Core.Logic.{◌≢◌}
@@ -14,17 +15,13 @@ use borrow.Author.Tests.{eqb-true, eqb-false}
 use Rattle.table.specs.declared.Task.{Task}
 use Rattle.table.specs.declared.Status.{Status}
 use Rattle.table.specs.declared.Status.TheVariants.{Idle, Ready, Event, Waits}
-use Rattle.table.specs.declared.Holder.{Holder}
-use Rattle.table.specs.declared.Holder.TheVariants.{Free, By}
-use Rattle.table.specs.declared.Found.{Found}
-use Rattle.table.specs.declared.Found.TheVariants.{At, Nothing}
 use Rattle.table.specs.Entries.{blank_task, span_of, with_status, with_deadline}
 use Rattle.table.specs.Refusals.{first_of, answered}
-use Rattle.table.specs.Places.{first_place, task_place, sem_place}
+use Rattle.table.specs.Places.{task_place, sem_place}
 use Rattle.table.proofs.RefusalLaws.{first_of_past, first_of_none}
 use Rattle.table.proofs.PlaceLaws.{search_set, found}
 use Rattle.executive.specs.declared.state.State.{State}
-use Rattle.executive.specs.declared.calls.Moved.{Moved}
+use Rattle.executive.specs.Calls.{Step}
 use Rattle.executive.specs.States.{tasks_of, sems_of}
 use Rattle.executive.specs.Sound.{Sound}
 use Rattle.waits.specs.Waits.{task_at, sem_at, waits_for}
@@ -37,7 +34,7 @@ use Rattle.theorems.specs.Histories.{Call, release, signal, withdraw, acquire, g
 use Rattle.theorems.specs.Undo.{Pulse, released, signalled, Pulses, none, more}
 
 -- a call that names a task, puts another entry at its place and sets the time of the last release
-abbrev Pulsed : ℕ → (Task → List (ℕ × Bool)) → (Task → Task) → ℕ → State → Moved
+abbrev Pulsed : ℕ → (Task → List (ℕ × Bool)) → (Task → Task) → ℕ → State → Step
 Pulsed number refusals next last s = on_task s number refusals (λ j. with_last (with_task s j (next (task_at (tasks_of s) j))) last)
 
 release_tests : ℕ → ℕ → Task → List (ℕ × Bool)
@@ -62,27 +59,27 @@ unfolding signal_of signal_tests signal_next now_does with_last with_tasks
 signal_pulse s number = refl
 
 -- the outcomes of a withdrawal that is accepted, and of an acquire
-withdraw_found : (s : State) (number i : ℕ) (u : Task) → task_place (tasks_of s) number ≡ At i → task_at (tasks_of s) i ≡ u
+withdraw_found : (s : State) (number i : ℕ) (u : Task) → task_place (tasks_of s) number ≡ Some i → task_at (tasks_of s) i ≡ u
     → is_none (waits_for u.status) ≡ false → withdraw_of s number ≡ moved (with_task s i (with_status u Ready)) 0
 unfolding withdraw_of now_does no_sem_wait
 withdraw_found s number i u place here waits =
     on_done s number (λ t. (25, no_sem_wait t) ∷ []) (λ j. now_does s j Ready) i place u here (first_of_past 25 (no_sem_wait u) [] waits ∙ first_of_none)
     ∙ ap (λ (t : Task). moved (with_task s i (with_status t Ready)) 0) here
 
-nobody : (s : State) (sem : ℕ) → running_of (tasks_of s) (sems_of s) ≡ Nothing → acquire_of s sem ≡ moved s 26
+nobody : (s : State) (sem : ℕ) → running_of (tasks_of s) (sems_of s) ≡ None → acquire_of s sem ≡ moved s 26
 unfolding acquire_of first_of answered is_none found_and found_or
 nobody s sem r = rw r
 
-no_sem_lem : (s : State) (sem i : ℕ) → running_of (tasks_of s) (sems_of s) ≡ At i → sem_place (sems_of s) sem ≡ Nothing → acquire_of s sem ≡ moved s 21
+no_sem_lem : (s : State) (sem i : ℕ) → running_of (tasks_of s) (sems_of s) ≡ Some i → sem_place (sems_of s) sem ≡ None → acquire_of s sem ≡ moved s 21
 unfolding acquire_of first_of answered is_none found_and found_or
 no_sem_lem s sem i r p = rw (r, p)
 
-ringed : (s : State) (sem i k : ℕ) → running_of (tasks_of s) (sems_of s) ≡ At i → sem_place (sems_of s) sem ≡ At k
+ringed : (s : State) (sem i k : ℕ) → running_of (tasks_of s) (sems_of s) ≡ Some i → sem_place (sems_of s) sem ≡ Some k
     → closes_ring (tasks_of s) (sems_of s) i k ≡ true → acquire_of s sem ≡ moved s 28
 unfolding acquire_of first_of answered is_none found_and found_or
 ringed s sem i k r p c = rw (r, p, c)
 
-taken : (s : State) (sem i k : ℕ) → running_of (tasks_of s) (sems_of s) ≡ At i → sem_place (sems_of s) sem ≡ At k
+taken : (s : State) (sem i k : ℕ) → running_of (tasks_of s) (sems_of s) ≡ Some i → sem_place (sems_of s) sem ≡ Some k
     → closes_ring (tasks_of s) (sems_of s) i k ≡ false → acquire_of s sem ≡ take_or_wait s i k (sem_at (sems_of s) k).holder
 unfolding acquire_of acquire_at first_of answered is_none found_and found_or
 taken s sem i k r p c = rw (r, p, c)
@@ -102,7 +99,7 @@ module _ (i : ℕ) (t w : Task) (same : w.number ≡ t.number) where
     inside : i < s.n
     room : s.n ≤ length s.tasks
     here : task_at (tasks_of s) i ≡ t
-    known : task_place (tasks_of s) t.number ≡ At i
+    known : task_place (tasks_of s) t.number ≡ Some i
 
   count : (s : State) → Holds s → length (tasks_of s) ≡ s.n
   unfolding tasks_of
@@ -113,8 +110,8 @@ module _ (i : ℕ) (t w : Task) (same : w.number ≡ t.number) where
       → task_place (tasks_of (with_task s j u)) number ≡ task_place (tasks_of s) number
   unfolding task_place task_at
   place_with s j u number h e =
-      ap (first_place (λ x. eqb x.number number) 0) (tasks_with s j u h)
-      ∙ search_set (λ x. eqb x.number number) (tasks_of s) 0 j u blank_task (ap (λ (k : ℕ). eqb k number) e)
+      ap (position (λ x. eqb x.number number)) (tasks_with s j u h)
+      ∙ search_set (λ x. eqb x.number number) (tasks_of s) j u blank_task (ap (λ (k : ℕ). eqb k number) e)
 
   at_other : (s : State) (j k : ℕ) (u : Task) → j < s.n → k ≢ j → task_at (tasks_of (with_task s j u)) k ≡ task_at (tasks_of s) k
   unfolding task_at
@@ -161,26 +158,26 @@ module _ (i : ℕ) (t w : Task) (same : w.number ≡ t.number) where
         → Pulsed number refusals next last (with_task s i w) ≡ moved (with_task r i w) k → Holds r → Follows s last
     unfolding moved
     follow s last r k p q h = (
-      q ∙ sym (ap (λ (m : Moved). moved (with_task m.state i w) m.answer) p),
-      subst (λ (m : Moved). Holds m.state) (sym p) h,
+      q ∙ sym (ap (λ (m : Step). moved (with_task m.state i w) m.answer) p),
+      subst (λ (m : Step). Holds m.state) (sym p) h,
     )
 
-    follows_unknown : (s : State) (last : ℕ) → Holds s → task_place (tasks_of s) number ≡ Nothing → task_place (tasks_of (with_task s i w)) number ≡ Nothing
+    follows_unknown : (s : State) (last : ℕ) → Holds s → task_place (tasks_of s) number ≡ None → task_place (tasks_of (with_task s i w)) number ≡ None
         → Follows s last
     unfolding done
     follows_unknown s last h p q =
         follow s last s 20 (on_none s number refusals (done last s) p) (on_none (with_task s i w) number refusals (done last (with_task s i w)) q) h
 
-    module _ (s : State) (last j : ℕ) (h : Holds s) (p : task_place (tasks_of s) number ≡ At j)
-        (q : task_place (tasks_of (with_task s i w)) number ≡ At j) where
+    module _ (s : State) (last j : ℕ) (h : Holds s) (p : task_place (tasks_of s) number ≡ Some j)
+        (q : task_place (tasks_of (with_task s i w)) number ≡ Some j) where
       follows_self : i ≡ j → Follows s last
       unfolding done
       follows_self e =
           let l = count s h in
           let k = h.inside in
           follow s last s (first_of (refusals t))
-          (on_refused s number refusals (done last s) i (p ∙ ap At (sym e)) t h.here (first_of (refusals t)) refl refused)
-          (on_refused (with_task s i w) number refusals (done last (with_task s i w)) i (q ∙ ap At (sym e)) w (at_same s i w h.inside (omega arith))
+          (on_refused s number refusals (done last s) i (p ∙ ap Some (sym e)) t h.here (first_of (refusals t)) refl refused)
+          (on_refused (with_task s i w) number refusals (done last (with_task s i w)) i (q ∙ ap Some (sym e)) w (at_same s i w h.inside (omega arith))
           (first_of (refusals t)) alike refused)
           h
 
@@ -205,20 +202,20 @@ module _ (i : ℕ) (t w : Task) (same : w.number ≡ t.number) where
           ∙ ap (λ (r : State). moved r 0) (swapped s j (next u) last ne))
           (holds_on s j (next u) last h k ne (keeps u))
 
-    follows : (s : State) (last : ℕ) → Holds s → ((j : ℕ) → task_place (tasks_of s) number ≡ At j → j < s.n) → Follows s last
+    follows : (s : State) (last : ℕ) → Holds s → ((j : ℕ) → task_place (tasks_of s) number ≡ Some j → j < s.n) → Follows s last
     follows s last h inside = go (task_place (tasks_of s) number) refl
       where
         alike_placed : task_place (tasks_of (with_task s i w)) number ≡ task_place (tasks_of s) number
         alike_placed = place_with s i w number h.inside (same ∙ ap (λ (u : Task). u.number) (sym h.here))
 
-        at : (j : ℕ) → task_place (tasks_of s) number ≡ At j → (b : Bool) → eqb i j ≡ b → Follows s last
+        at : (j : ℕ) → task_place (tasks_of s) number ≡ Some j → (b : Bool) → eqb i j ≡ b → Follows s last
         at j p true e = follows_self s last j h p (alike_placed ∙ p) (eqb-true i j e)
         at j p false e =
             follows_other s last j h p (alike_placed ∙ p) (inside j p) (eqb-false i j e) (eqb (first_of (refusals (task_at (tasks_of s) j))) 0) refl
 
-        go : (f : Found) → task_place (tasks_of s) number ≡ f → Follows s last
-        go Nothing p = follows_unknown s last h p (alike_placed ∙ p)
-        go (At j) p = at j p (eqb i j) refl
+        go : (f : Option ℕ) → task_place (tasks_of s) number ≡ f → Follows s last
+        go None p = follows_unknown s last h p (alike_placed ∙ p)
+        go (Some j) p = at j p (eqb i j) refl
 
 -- the same task, waiting for the semaphore at k
 waiting : Task → ℕ → Task
@@ -263,7 +260,7 @@ module _ (i : ℕ) (t : Task) (k : ℕ) (ready : t.status ≡ Ready) where
   abbrev Same : State → Type 0
   Same s = Holds i t (waiting t k) (same_number t k ready) s
 
-  found_inside : (s : State) → Same s → (number j : ℕ) → task_place (tasks_of s) number ≡ At j → j < s.n
+  found_inside : (s : State) → Same s → (number j : ℕ) → task_place (tasks_of s) number ≡ Some j → j < s.n
   unfolding task_place
   found_inside s h number j e =
       let f = found (λ x. eqb x.number number) (tasks_of s) j blank_task e in
@@ -280,11 +277,11 @@ module _ (i : ℕ) (t : Task) (k : ℕ) (ready : t.status ≡ Ready) where
   abbrev Both : State → Call → Type 0
   Both s c = (called (apart s) c ≡ moved (apart (called s c).state) (called s c).answer) × Same (called s c).state
 
-  joined : (s : State) (m : Moved) (m' r : Moved) → m ≡ r → m' ≡ moved (apart r.state) r.answer → Same r.state
+  joined : (s : State) (m : Step) (m' r : Step) → m ≡ r → m' ≡ moved (apart r.state) r.answer → Same r.state
       → (m' ≡ moved (apart m.state) m.answer) × Same m.state
   joined s m m' r e f h = (
-    f ∙ sym (ap (λ (x : Moved). moved (apart x.state) x.answer) e),
-    subst (λ (x : Moved). Same x.state) (sym e) h,
+    f ∙ sym (ap (λ (x : Step). moved (apart x.state) x.answer) e),
+    subst (λ (x : Step). Same x.state) (sym e) h,
   )
 
   step : (s : State) → Same s → (c : Call) → Pulse c → Both s c
@@ -319,8 +316,8 @@ module _ (i : ℕ) (t : Task) (k : ℕ) (ready : t.status ≡ Ready) where
   steps s h (c ∷ rest) (more p ps) =
       let b = step s h c p in
       let r = steps (called s c).state b.1 rest ps in (
-        ap (λ (m : Moved). after m.state rest) b.0 ∙ r.0,
-        ap (λ (m : Moved). m.answer ∷ answers_to m.state rest) b.0 ∙ ap (λ (l : List ℕ). (called s c).answer ∷ l) r.1,
+        ap (λ (m : Step). after m.state rest) b.0 ∙ r.0,
+        ap (λ (m : Step). m.answer ∷ answers_to m.state rest) b.0 ∙ ap (λ (l : List ℕ). (called s c).answer ∷ l) r.1,
         r.2,
       )
 
@@ -337,41 +334,41 @@ module _ (i : ℕ) (t : Task) (k : ℕ) (ready : t.status ≡ Ready) where
       let inside = h.inside in
       let here : task_at (tasks_of (apart s)) i ≡ waiting t k =
       unfold apart in at_same i t (waiting t k) (same_number t k ready) s i (waiting t k) h.inside (omega arith) in
-      let place : task_place (tasks_of (apart s)) t.number ≡ At i = apart_place s h t.number ∙ h.known in
+      let place : task_place (tasks_of (apart s)) t.number ≡ Some i = apart_place s h t.number ∙ h.known in
       withdraw_found (apart s) t.number i (waiting t k) place here (waiting_waits t k ready)
       ∙ (ap (λ (u : Task). moved (with_task (apart s) i u) 0) (back t k ready) ∙ ap (λ (r : State). moved r 0) (rejoin s h))
 
 -- an acquire that is answered 90: the running task is the caller, and waits
 abbrev Waited : State → ℕ → Type 0
 Waited s sem =
-    (i : ℕ) × (k : ℕ) × (running_of (tasks_of s) (sems_of s) ≡ At i) × (acquire_of s sem ≡ moved (now_does s i (Waits k)) 90)
+    (i : ℕ) × (k : ℕ) × (running_of (tasks_of s) (sems_of s) ≡ Some i) × (acquire_of s sem ≡ moved (now_does s i (Waits k)) 90)
 
 other_number : (k : ℕ) → eqb k 90 ≡ false → k ≡ 90 → ⊥
 other_number k e = eqb-false k 90 e
 
-waited_holder : (s : State) (sem i k : ℕ) (h : Holder) → (sem_at (sems_of s) k).holder ≡ h → running_of (tasks_of s) (sems_of s) ≡ At i
+waited_holder : (s : State) (sem i k : ℕ) (h : Option ℕ) → (sem_at (sems_of s) k).holder ≡ h → running_of (tasks_of s) (sems_of s) ≡ Some i
     → acquire_of s sem ≡ take_or_wait s i k h → (acquire_of s sem).answer ≡ 90 → Waited s sem
 unfolding take_or_wait moved
-waited_holder s sem i k Free e r a n = absurd (other_number 0 refl (sym (ap (λ (m : Moved). m.answer) a) ∙ n))
-waited_holder s sem i k (By j) e r a n = (i, k, r, a)
+waited_holder s sem i k None e r a n = absurd (other_number 0 refl (sym (ap (λ (m : Step). m.answer) a) ∙ n))
+waited_holder s sem i k (Some j) e r a n = (i, k, r, a)
 
-waited_ring : (s : State) (sem i k : ℕ) (b : Bool) → running_of (tasks_of s) (sems_of s) ≡ At i → sem_place (sems_of s) sem ≡ At k
+waited_ring : (s : State) (sem i k : ℕ) (b : Bool) → running_of (tasks_of s) (sems_of s) ≡ Some i → sem_place (sems_of s) sem ≡ Some k
     → closes_ring (tasks_of s) (sems_of s) i k ≡ b → (acquire_of s sem).answer ≡ 90 → Waited s sem
 unfolding moved
-waited_ring s sem i k true r p c n = absurd (other_number 28 refl (sym (ap (λ (m : Moved). m.answer) (ringed s sem i k r p c)) ∙ n))
+waited_ring s sem i k true r p c n = absurd (other_number 28 refl (sym (ap (λ (m : Step). m.answer) (ringed s sem i k r p c)) ∙ n))
 waited_ring s sem i k false r p c n =
     waited_holder s sem i k (sem_at (sems_of s) k).holder refl r (taken s sem i k r p c) n
 
-waited_sem : (s : State) (sem i : ℕ) (at : Found) → running_of (tasks_of s) (sems_of s) ≡ At i → sem_place (sems_of s) sem ≡ at
+waited_sem : (s : State) (sem i : ℕ) (at : Option ℕ) → running_of (tasks_of s) (sems_of s) ≡ Some i → sem_place (sems_of s) sem ≡ at
     → (acquire_of s sem).answer ≡ 90 → Waited s sem
 unfolding moved
-waited_sem s sem i Nothing r p n = absurd (other_number 21 refl (sym (ap (λ (m : Moved). m.answer) (no_sem_lem s sem i r p)) ∙ n))
-waited_sem s sem i (At k) r p n = waited_ring s sem i k (closes_ring (tasks_of s) (sems_of s) i k) r p refl n
+waited_sem s sem i None r p n = absurd (other_number 21 refl (sym (ap (λ (m : Step). m.answer) (no_sem_lem s sem i r p)) ∙ n))
+waited_sem s sem i (Some k) r p n = waited_ring s sem i k (closes_ring (tasks_of s) (sems_of s) i k) r p refl n
 
-waited : (s : State) (sem : ℕ) (runs : Found) → running_of (tasks_of s) (sems_of s) ≡ runs → (acquire_of s sem).answer ≡ 90 → Waited s sem
+waited : (s : State) (sem : ℕ) (runs : Option ℕ) → running_of (tasks_of s) (sems_of s) ≡ runs → (acquire_of s sem).answer ≡ 90 → Waited s sem
 unfolding moved
-waited s sem Nothing r n = absurd (other_number 26 refl (sym (ap (λ (m : Moved). m.answer) (nobody s sem r)) ∙ n))
-waited s sem (At i) r n = waited_sem s sem i (sem_place (sems_of s) sem) r refl n
+waited s sem None r n = absurd (other_number 26 refl (sym (ap (λ (m : Step). m.answer) (nobody s sem r)) ∙ n))
+waited s sem (Some i) r n = waited_sem s sem i (sem_place (sems_of s) sem) r refl n
 
 ready_status : (now : Status) → is_ready now ≡ true → now ≡ Ready
 unfolding is_ready
@@ -381,7 +378,7 @@ ready_status Event e = let z : ◌≡◌ {A = ℕ} 0 1 = cc in absurd (omega ari
 ready_status (Waits k) e = let z : ◌≡◌ {A = ℕ} 0 1 = cc in absurd (omega arith)
 
 -- the task that runs is one of the table, and ready
-runner : (s : State) (i : ℕ) → running_of (tasks_of s) (sems_of s) ≡ At i → (i < length (tasks_of s)) × ((task_at (tasks_of s) i).status ≡ Ready)
+runner : (s : State) (i : ℕ) → running_of (tasks_of s) (sems_of s) ≡ Some i → (i < length (tasks_of s)) × ((task_at (tasks_of s) i).status ≡ Ready)
 unfolding running_of ready_at
 runner s i e =
     let best = best_is (ready_at (tasks_of s)) (standing_of (tasks_of s) (sems_of s)) (length (tasks_of s)) i e in
@@ -401,7 +398,7 @@ waits_apart : (s : State) (i k : ℕ) (ready : (task_at (tasks_of s) i).status �
 unfolding now_does apart waiting
 waits_apart s i k ready = refl
 
-number_of : (s : State) (i : ℕ) → number_at (tasks_of s) (At i) ≡ (task_at (tasks_of s) i).number
+number_of : (s : State) (i : ℕ) → number_at (tasks_of s) (Some i) ≡ (task_at (tasks_of s) i).number
 unfolding number_at
 number_of s i = refl
 
@@ -418,7 +415,7 @@ undone s sound sem n calls pulses =
     let t = task_at (tasks_of s) i in
     let run = runner s i r.2 in
     let same = starts s sound i k run.0 run.1 in
-    let state : (acquire_of s sem).state ≡ apart i t k run.1 s = ap (λ (m : Moved). m.state) r.3 ∙ waits_apart s i k run.1 in
+    let state : (acquire_of s sem).state ≡ apart i t k run.1 s = ap (λ (m : Step). m.state) r.3 ∙ waits_apart s i k run.1 in
     let number : number_at (tasks_of s) (running_of (tasks_of s) (sems_of s)) ≡ t.number = ap (number_at (tasks_of s)) r.2 ∙ number_of s i in
     let all = steps i t k run.1 s same calls pulses in (
       ap (λ (x : State). withdraw_of (after x calls) (number_at (tasks_of s) (running_of (tasks_of s) (sems_of s)))) state

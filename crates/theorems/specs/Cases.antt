@@ -1,10 +1,9 @@
 -- The cases that document 01 marks P ("Bench figures"), in one table, with one statement over all rows.
-use Rattle.std.specs.Prelude.{ℕ, ◌≡◌, false, List, [], ◌∷◌, map, length, replicate}
+use Rattle.std.specs.Prelude.{ℕ, ◌≡◌, false, List, [], ◌∷◌, map, length, replicate, None}
 use Rattle.table.specs.declared.Board.{Board}
 use Rattle.table.specs.declared.Task.{Task}
 use Rattle.table.specs.declared.Sem.{Sem}
 use Rattle.table.specs.declared.Status.TheVariants.{Idle}
-use Rattle.table.specs.declared.Holder.TheVariants.{Free}
 use Rattle.table.specs.Entries.{built_in, no_figures}
 use Rattle.executive.specs.declared.state.State.{State}
 use Rattle.executive.specs.States.{tasks_of, sems_of}
@@ -13,7 +12,7 @@ use Rattle.executive.specs.Tables.{Table}
 use Rattle.image.specs.Loading.{load_of}
 use Rattle.image.specs.Writing.{encoded}
 use Rattle.charges.specs.Charges.{charge_of}
-use Rattle.judging.specs.Columns.{columns_of}
+use Rattle.judging.specs.Rows.{rows_of}
 use Rattle.judging.specs.Periods.{shared_period}
 use Rattle.judging.specs.Verdicts.{verdict_of}
 use Rattle.theorems.specs.Histories.{Call, release, withdraw, acquire, give, called, after}
@@ -58,7 +57,7 @@ Judged tasks board charges number task =
 abbrev pub Holds : Case → Type 0
 Holds (judged tasks board charges number task) = Judged tasks board charges number task
 Holds (shared tasks board charges number task period) =
-    Judged tasks board charges number task × (shared_period (columns_of tasks board) (length tasks) ≡ period)
+    Judged tasks board charges number task × (shared_period (rows_of tasks board) (length tasks) ≡ period)
 Holds (played table steps) = steps_of (loaded table) (calls_of steps) ≡ steps
 Holds (undone table steps others) =
     (steps_of (loaded table) (calls_of steps) ≡ steps) × (after (loaded table) (calls_of steps) ≡ after (loaded table) others)
@@ -84,7 +83,7 @@ workload four fifth rest =
 
 -- a semaphore as it is loaded
 abbrev pub sem : ℕ → Sem
-sem number = record { number = number; holder = Free }
+sem number = record { number = number; holder = None }
 
 -- FP tasks 7, 9, 11 by rising period, and these semaphores
 abbrev pub three_fp : List Sem → Table

@@ -1,10 +1,8 @@
 -- 01's words for when a call is refused ("Numbers that come back").
-use Rattle.std.specs.Prelude.{ℕ, ◌<◌, ◌≡◌, ◌≢◌, ◌⊎◌, List, [], ◌∷◌, length}
+use Rattle.std.specs.Prelude.{ℕ, ◌<◌, ◌≡◌, ◌≢◌, ◌⊎◌, List, [], ◌∷◌, length, Some}
 use Rattle.table.specs.declared.Task.{Task}
 use Rattle.table.specs.declared.Sem.{Sem}
 use Rattle.table.specs.declared.Status.TheVariants.{Idle, Ready, Event, Waits}
-use Rattle.table.specs.declared.Holder.TheVariants.{By}
-use Rattle.table.specs.declared.Found.TheVariants.{At}
 use Rattle.executive.specs.declared.state.State.{State}
 use Rattle.executive.specs.States.{tasks_of, sems_of}
 use Rattle.waits.specs.Waits.{task_at, sem_at}
@@ -30,7 +28,7 @@ NobodyRuns tasks = (i : ℕ) → i < length tasks → (task_at tasks i).status �
 
 -- the task that runs is so
 abbrev pub TheRunner : State → (ℕ → Type 0) → Type 0
-TheRunner s P = (i : ℕ) × (running_of (tasks_of s) (sems_of s) ≡ At i) × P i
+TheRunner s P = (i : ℕ) × (running_of (tasks_of s) (sems_of s) ≡ Some i) × P i
 
 -- the semaphore with this number is so
 abbrev pub TheSem : List Sem → ℕ → (Sem → Type 0) → Type 0
@@ -59,8 +57,8 @@ abbrev pub acquire_conditions : State → ℕ → List (ℕ × Type 0)
 acquire_conditions s number =
     (26, NobodyRuns (tasks_of s))
     ∷ (21, UnknownSem (sems_of s) number)
-    ∷ (28, TheRunner s (λ i. TheSem (sems_of s) number (λ e. (j : ℕ) × (e.holder ≡ By j) × Reaches (tasks_of s) (sems_of s) i j)))
-    ∷ (90, TheSem (sems_of s) number (λ e. (j : ℕ) × (e.holder ≡ By j)))
+    ∷ (28, TheRunner s (λ i. TheSem (sems_of s) number (λ e. (j : ℕ) × (e.holder ≡ Some j) × Reaches (tasks_of s) (sems_of s) i j)))
+    ∷ (90, TheSem (sems_of s) number (λ e. (j : ℕ) × (e.holder ≡ Some j)))
     ∷ []
 
 -- Give: 26 no task runs; 21 unknown semaphore; 29 given semaphore is not held by the running task
@@ -68,14 +66,14 @@ abbrev pub give_conditions : State → ℕ → List (ℕ × Type 0)
 give_conditions s number =
     (26, NobodyRuns (tasks_of s))
     ∷ (21, UnknownSem (sems_of s) number)
-    ∷ (29, TheRunner s (λ i. TheSem (sems_of s) number (λ e. e.holder ≢ By i)))
+    ∷ (29, TheRunner s (λ i. TheSem (sems_of s) number (λ e. e.holder ≢ Some i)))
     ∷ []
 
 -- Complete: 26 no task runs; 27 running task still holds a semaphore
 abbrev pub complete_conditions : State → List (ℕ × Type 0)
 complete_conditions s =
     (26, NobodyRuns (tasks_of s))
-    ∷ (27, TheRunner s (λ i. (k : ℕ) × (k < length (sems_of s)) × ((sem_at (sems_of s) k).holder ≡ By i)))
+    ∷ (27, TheRunner s (λ i. (k : ℕ) × (k < length (sems_of s)) × ((sem_at (sems_of s) k).holder ≡ Some i)))
     ∷ []
 
 -- Block: 26 no task runs

@@ -1,13 +1,12 @@
 -- The user's three demands as statements. Each is shown under the same name, in lower case, in proofs/Shown.antt.
-use Rattle.std.specs.Prelude.{ℕ, ◌-◌, ◌%◌, ◌≤◌, ◌<◌, ◌≡◌, ◌↔◌, ◌≢◌, ◌⊎◌, true, false, List, [], ◌∷◌, ◌++◌, length, replicate}
+use Rattle.std.specs.Prelude.{ℕ, ◌-◌, ◌%◌, ◌≤◌, ◌<◌, ◌≡◌, ◌↔◌, ◌≢◌, ◌⊎◌, true, false, List, [], ◌∷◌, ◌++◌, length, replicate, Some}
 use Rattle.table.specs.declared.Board.{Board}
 use Rattle.table.specs.declared.Task.{Task}
-use Rattle.table.specs.declared.Found.TheVariants.{At}
 use Rattle.table.specs.WellFormed.{WellFormed}
 use Rattle.fields.specs.Fields.{Bytes}
 use Rattle.waits.specs.declared.standing.Rank.{Rank}
 use Rattle.executive.specs.declared.state.State.{State}
-use Rattle.executive.specs.declared.standing.Stands.{Stands}
+use Rattle.executive.specs.Calls.{Stands}
 use Rattle.executive.specs.States.{tasks_of, sems_of, empty_state}
 use Rattle.executive.specs.Sound.{Sound}
 use Rattle.waits.specs.Waits.{waits_on}
@@ -15,7 +14,7 @@ use Rattle.waits.specs.Standing.{own_of, better, standing_of, ready_at, running_
 use Rattle.waits.specs.Reaches.{IsStanding}
 use Rattle.executive.specs.Calls.{moved, stands_of}
 use Rattle.executive.specs.Tables.{table_of, as_loaded}
-use Rattle.judging.specs.Columns.{columns_of}
+use Rattle.judging.specs.Rows.{rows_of}
 use Rattle.judging.specs.Verdicts.{verdict_of}
 use Rattle.judging.specs.Passes.{Passes}
 use Rattle.executive.specs.Reading.{accepted_load}
@@ -85,11 +84,11 @@ JudgeWhen = (tasks : List Task) (board : Board) (k : ℕ) → ((verdict_of tasks
 abbrev pub JudgeNames : Type 0
 JudgeNames =
     (tasks : List Task) (board : Board)
-    → let c = columns_of tasks board in
+    → let rows = rows_of tasks board in
     let v = verdict_of tasks board in
-    (v.number ≡ 10 → NamesFirst tasks (Long c) v.task)
-    × (v.number ≡ 13 → NamesFirst tasks (LateDp2 c) v.task)
-    × (v.number ≡ 14 → NamesFirst tasks (LateFp c) v.task)
+    (v.number ≡ 10 → NamesFirst tasks (Long rows) v.task)
+    × (v.number ≡ 13 → NamesFirst tasks (LateDp2 rows) v.task)
+    × (v.number ≡ 14 → NamesFirst tasks (LateFp rows) v.task)
     × (v.number ≢ 10 → v.number ≢ 13 → v.number ≢ 14 → v.task ≡ 0)
 
 -- a refused load hands back the empty state
@@ -122,7 +121,7 @@ PassesExactly =
 -- the task that runs is a ready one, and no ready task has a better standing, counting what it inherits
 abbrev pub RunsBest : Type 0
 RunsBest =
-    (s : State) → Comes s → (i : ℕ) → running_of (tasks_of s) (sems_of s) ≡ At i
+    (s : State) → Comes s → (i : ℕ) → running_of (tasks_of s) (sems_of s) ≡ Some i
     → (i < s.n) × (ready_at (tasks_of s) i ≡ true)
     × ((j : ℕ) → j < s.n → ready_at (tasks_of s) j ≡ true
     → better (standing_of (tasks_of s) (sems_of s) j) (standing_of (tasks_of s) (sems_of s) i) ≡ false)
@@ -154,7 +153,7 @@ StandingWhen = (s : State) → Comes s → (number : ℕ) (a : Stands) → (stan
 -- a task on which nobody waits has its own standing back
 abbrev pub NobodyWaits : Type 0
 NobodyWaits =
-    (s : State) → Comes s → (i : ℕ) → i < s.n → ((j : ℕ) → j < s.n → waits_on (tasks_of s) (sems_of s) j ≡ At i → ⊥)
+    (s : State) → Comes s → (i : ℕ) → i < s.n → ((j : ℕ) → j < s.n → waits_on (tasks_of s) (sems_of s) j ≡ Some i → ⊥)
     → standing_of (tasks_of s) (sems_of s) i ≡ own_of (tasks_of s) i
 
 -- DEMAND 3, second half. On any state that comes, an acquire answered 90, then any list of releases and signals, then the withdrawal of that

@@ -1,7 +1,7 @@
 -- States that come from loading and calls, and what a list of calls does.
 use Rattle.std.specs.Prelude.{ℕ, ◌≡◌, Bool, cond, ◌||◌, List, [], ◌∷◌, eqb}
 use Rattle.executive.specs.declared.state.State.{State}
-use Rattle.executive.specs.declared.calls.Moved.{Moved}
+use Rattle.executive.specs.Calls.{Step}
 use Rattle.executive.specs.Calls.{release_of, signal_of, withdraw_of, acquire_of, give_of, complete_of, block_of}
 
 -- 01, "Dispatch": the calls, with what each is given
@@ -15,7 +15,7 @@ pub data Call : Type 0 where
   block : Call
 
 -- 01, "Dispatch": each call hands back the next state and a number
-unfoldable pub called : State → Call → Moved
+unfoldable pub called : State → Call → Step
 called s (release number time) = release_of s number time
 called s (signal number) = signal_of s number
 called s (withdraw number) = withdraw_of s number

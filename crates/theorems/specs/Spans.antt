@@ -9,7 +9,7 @@ use Rattle.waits.specs.Waits.{task_at}
 use Rattle.waits.specs.Standing.{own_of}
 use Rattle.executive.specs.declared.state.State.{State}
 use Rattle.executive.specs.States.{tasks_of}
-use Rattle.judging.specs.Columns.{columns_of}
+use Rattle.judging.specs.Rows.{rows_of}
 use Rattle.judging.specs.Demands.{demand_fp, TimeUpTo, TimeFp}
 use Rattle.image.specs.Loading.{load_of, records_in}
 use Rattle.theorems.specs.Cases.{Case, judged, task, All}
@@ -31,7 +31,7 @@ SpanFits = (s : State) → Comes s → (i : ℕ) → i < s.n → let t = task_at
 abbrev pub SearchedTo : Type 0
 SearchedTo =
     (tasks : List Task) (board : Board) (i : ℕ) → i < length tasks
-    → TimeFp (columns_of tasks board) i ↔ TimeUpTo (demand_fp (columns_of tasks board) i) (span_of (task_at tasks i))
+    → TimeFp (rows_of tasks board) i ↔ TimeUpTo (demand_fp (rows_of tasks board) i) (span_of (task_at tasks i))
 
 -- "and a release adds it in place of the period"
 abbrev pub ReleaseAdds : Type 0

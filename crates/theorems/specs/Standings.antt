@@ -4,7 +4,7 @@ use Rattle.waits.specs.declared.standing.Rank.{Rank}
 use Rattle.waits.specs.Waits.{task_at}
 use Rattle.waits.specs.Reaches.{IsStanding}
 use Rattle.executive.specs.declared.state.State.{State}
-use Rattle.executive.specs.declared.standing.Stands.{Stands}
+use Rattle.executive.specs.Calls.{Stands}
 use Rattle.executive.specs.States.{tasks_of, sems_of}
 use Rattle.executive.specs.Calls.{shown}
 use Rattle.theorems.specs.Conditions.{UnknownTask}

@@ -1,20 +1,19 @@
 -- Every public operation of every crate: any two results that its contract allows are equal, and so are the final contents of every lent
 -- buffer. Each statement is over the contract's own generated reading, `Post`. .ci/tests/1-statements finds an operation that lacks one.
 -- Assumes nothing.
-use mathlib.Core.Path.{sym, ◌∙◌}
+use mathlib.Core.Path.{◌≡◌, sym, ◌∙◌}
+use denote.RattleType.{RattleType}
+use denote.Param.Laws.{Laws, IsCopy}
+use mir.Syntax.{Dict}
+use Rattle.std.specs.declared.clone.Clone.{Ghosts as Clone}
+use Rattle.fields.specs.declared.Number.{Ghosts as Number}
+use Rattle.lookup.specs.declared.Numbered.{Ghosts as Numbered}
 use Rattle.tightness.specs.Tight.{OneResult, OneAtExit}
-use Rattle.fields.proofs.u16_at.Reads as u16_at
-use Rattle.fields.proofs.u16_at.Kinds as u16_at_kinds
-use Rattle.fields.proofs.u32_at.Reads as u32_at
-use Rattle.fields.proofs.u32_at.Kinds as u32_at_kinds
-use Rattle.fields.proofs.u64_at.Reads as u64_at
-use Rattle.fields.proofs.u64_at.Kinds as u64_at_kinds
-use Rattle.fields.proofs.put_u16.Reads as put_u16
-use Rattle.fields.proofs.put_u16.Kinds as put_u16_kinds
-use Rattle.fields.proofs.put_u32.Reads as put_u32
-use Rattle.fields.proofs.put_u32.Kinds as put_u32_kinds
-use Rattle.fields.proofs.put_u64.Reads as put_u64
-use Rattle.fields.proofs.put_u64.Kinds as put_u64_kinds
+use Rattle.tightness.proofs.Apart.{refusal_apart, reading_apart, step_apart, stands_apart, tried_apart}
+use Rattle.fields.proofs.read.Reads as number_read
+use Rattle.fields.proofs.read.Kinds as number_read_kinds
+use Rattle.fields.proofs.put.Reads as number_put
+use Rattle.fields.proofs.put.Kinds as number_put_kinds
 use Rattle.fields.proofs.all_are.Reads as all_are
 use Rattle.fields.proofs.all_are.Kinds as all_are_kinds
 use Rattle.fields.proofs.fill.Reads as fill
@@ -53,24 +52,24 @@ use Rattle.table.proofs.ranges.task_before.Reads as task_before
 use Rattle.table.proofs.ranges.task_before.Kinds as task_before_kinds
 use Rattle.table.proofs.ranges.sem_before.Reads as sem_before
 use Rattle.table.proofs.ranges.sem_before.Kinds as sem_before_kinds
-use Rattle.lookup.proofs.task_place.Reads as lookup_task_place
-use Rattle.lookup.proofs.task_place.Kinds as lookup_task_place_kinds
-use Rattle.lookup.proofs.sem_place.Reads as lookup_sem_place
-use Rattle.lookup.proofs.sem_place.Kinds as lookup_sem_place_kinds
-use Rattle.waits.proofs.standing.doing.Reads as waits_doing
-use Rattle.waits.proofs.standing.doing.Kinds as waits_doing_kinds
+use Rattle.table.proofs.refusals.Refusal.number.Reads as refusal_number
+use Rattle.table.proofs.refusals.Refusal.number.Kinds as refusal_number_kinds
+use Rattle.table.proofs.refusals.told.Reads as refusals_told
+use Rattle.table.proofs.refusals.told.Kinds as refusals_told_kinds
+use Rattle.lookup.proofs.place.Reads as lookup_place
+use Rattle.lookup.proofs.place.Kinds as lookup_place_kinds
 use Rattle.waits.proofs.standing.holds_it.Reads as waits_holds_it
 use Rattle.waits.proofs.standing.holds_it.Kinds as waits_holds_it_kinds
-use Rattle.waits.proofs.standing.holds.Reads as waits_holds
-use Rattle.waits.proofs.standing.holds.Kinds as waits_holds_kinds
-use Rattle.waits.proofs.standing.running.Reads as waits_running
-use Rattle.waits.proofs.standing.running.Kinds as waits_running_kinds
-use Rattle.waits.proofs.standing.heir.Reads as waits_heir
-use Rattle.waits.proofs.standing.heir.Kinds as waits_heir_kinds
-use Rattle.waits.proofs.standing.closes_ring.Reads as waits_closes_ring
-use Rattle.waits.proofs.standing.closes_ring.Kinds as waits_closes_ring_kinds
-use Rattle.waits.proofs.standing.standing.Reads as waits_standing
-use Rattle.waits.proofs.standing.standing.Kinds as waits_standing_kinds
+use Rattle.waits.proofs.Entries.holds.Reads as waits_holds
+use Rattle.waits.proofs.Entries.holds.Kinds as waits_holds_kinds
+use Rattle.waits.proofs.Entries.running.Reads as waits_running
+use Rattle.waits.proofs.Entries.running.Kinds as waits_running_kinds
+use Rattle.waits.proofs.Entries.heir.Reads as waits_heir
+use Rattle.waits.proofs.Entries.heir.Kinds as waits_heir_kinds
+use Rattle.waits.proofs.Entries.closes_ring.Reads as waits_closes_ring
+use Rattle.waits.proofs.Entries.closes_ring.Kinds as waits_closes_ring_kinds
+use Rattle.waits.proofs.Entries.standing.Reads as waits_standing
+use Rattle.waits.proofs.Entries.standing.Kinds as waits_standing_kinds
 use Rattle.executive.proofs.state.State.release.Reads as release
 use Rattle.executive.proofs.state.State.release.Kinds as release_kinds
 use Rattle.executive.proofs.state.State.signal.Reads as signal
@@ -93,6 +92,8 @@ use Rattle.executive.proofs.state.State.empty.Reads as empty
 use Rattle.executive.proofs.state.State.empty.Kinds as empty_kinds
 use Rattle.executive.proofs.loaded.Loaded.refused.Reads as loaded_refused
 use Rattle.executive.proofs.loaded.Loaded.refused.Kinds as loaded_refused_kinds
+use Rattle.executive.proofs.loaded.Loaded.accepted.Reads as loaded_accepted
+use Rattle.executive.proofs.loaded.Loaded.accepted.Kinds as loaded_accepted_kinds
 use Rattle.records.proofs.decode.Reads as decode
 use Rattle.records.proofs.decode.Kinds as decode_kinds
 use Rattle.records.proofs.put_task.Reads as record_put_task
@@ -117,6 +118,9 @@ use Rattle.charges.proofs.Counts.load.Reads as counts_load
 use Rattle.charges.proofs.Counts.load.Kinds as counts_load_kinds
 use Rattle.judging.proofs.judge.judge.Reads as judge
 use Rattle.judging.proofs.judge.judge.Kinds as judge_kinds
+use Rattle.judging.proofs.judge.told.Reads as judge_told
+use Rattle.judging.proofs.judge.told.Kinds as judge_told_kinds
+use Rattle.judging.proofs.VerdictLaws.{told_apart}
 use Rattle.report.proofs.report.Reads as report
 use Rattle.report.proofs.report.Kinds as report_kinds
 use Rattle.rack.proofs.export.rack_export.Reads as rack_export
@@ -132,29 +136,15 @@ use Rattle.rack.proofs.rewrite.rack_rewrite.Kinds as rack_rewrite_kinds
 use Rattle.rack.proofs.verdict.rack_judge.Reads as rack_judge
 use Rattle.rack.proofs.verdict.rack_judge.Kinds as rack_judge_kinds
 
--- fields::u16_at
-pub u16_at_one : OneResult 1 u16_at_kinds.ps u16_at_kinds.r u16_at.Post
-u16_at_one κs a z z' e e' p q = p ∙ sym q
+-- fields::read and fields::put, of any number that tells its values apart
+module _ (T : RattleType) (laws : Laws T) (copies : IsCopy T) (number : Number T.Denot) (d : Dict) (clone : Clone T.Denot) (e : Dict) where
+  pub number_read_one : ((x y : T.Denot) → number.count x ≡ number.count y → x ≡ y)
+      → OneResult 2 (number_read_kinds.ps T laws copies) (number_read_kinds.r T laws copies) (number_read.Post T laws copies number d clone e)
+  number_read_one apart κs a z z' x x' p q = apart z z' (p ∙ sym q)
 
--- fields::u32_at
-pub u32_at_one : OneResult 1 u32_at_kinds.ps u32_at_kinds.r u32_at.Post
-u32_at_one κs a z z' e e' p q = p ∙ sym q
-
--- fields::u64_at
-pub u64_at_one : OneResult 1 u64_at_kinds.ps u64_at_kinds.r u64_at.Post
-u64_at_one κs a z z' e e' p q = p ∙ sym q
-
--- fields::put_u16
-pub put_u16_buffer : OneAtExit 1 put_u16_kinds.ps put_u16_kinds.r put_u16.Post (λ κs e. e.0.now)
-put_u16_buffer κs a z z' e e' p q = p ∙ sym q
-
--- fields::put_u32
-pub put_u32_buffer : OneAtExit 1 put_u32_kinds.ps put_u32_kinds.r put_u32.Post (λ κs e. e.0.now)
-put_u32_buffer κs a z z' e e' p q = p ∙ sym q
-
--- fields::put_u64
-pub put_u64_buffer : OneAtExit 1 put_u64_kinds.ps put_u64_kinds.r put_u64.Post (λ κs e. e.0.now)
-put_u64_buffer κs a z z' e e' p q = p ∙ sym q
+  pub number_put_buffer :
+      OneAtExit 2 (number_put_kinds.ps T laws copies) (number_put_kinds.r T laws copies) (number_put.Post T laws copies number d clone e) (λ κs x. x.0.now)
+  number_put_buffer κs a z z' x x' p q = p ∙ sym q
 
 -- fields::all_are
 pub all_are_one : OneResult 1 all_are_kinds.ps all_are_kinds.r all_are.Post
@@ -244,77 +234,78 @@ task_before_one κs a z z' e e' p q = p ∙ sym q
 pub sem_before_one : OneResult 0 sem_before_kinds.ps sem_before_kinds.r sem_before.Post
 sem_before_one κs a z z' e e' p q = p ∙ sym q
 
--- lookup::task_place
-pub lookup_task_place_one : OneResult 0 lookup_task_place_kinds.ps lookup_task_place_kinds.r lookup_task_place.Post
-lookup_task_place_one κs a z z' e e' p q = p ∙ sym q
+-- table::refusals::Refusal::number
+pub refusal_number_one : OneResult 0 refusal_number_kinds.ps refusal_number_kinds.r refusal_number.Post
+refusal_number_one κs a z z' e e' p q = p ∙ sym q
 
--- lookup::sem_place
-pub lookup_sem_place_one : OneResult 0 lookup_sem_place_kinds.ps lookup_sem_place_kinds.r lookup_sem_place.Post
-lookup_sem_place_one κs a z z' e e' p q = p ∙ sym q
+-- table::refusals::told
+pub refusals_told_one : OneResult 0 refusals_told_kinds.ps refusals_told_kinds.r refusals_told.Post
+refusals_told_one κs a z z' e e' p q = p ∙ sym q
 
--- waits::standing::doing
-pub waits_doing_one : OneResult 0 waits_doing_kinds.ps waits_doing_kinds.r waits_doing.Post
-waits_doing_one κs a z z' e e' p q = p ∙ sym q
+-- lookup::place, of any entry that has a number
+module _ (T : RattleType) (laws : Laws T) (numbered : Numbered T.Denot) (d : Dict) where
+  pub lookup_place_one : OneResult 2 (lookup_place_kinds.ps T laws) (lookup_place_kinds.r T laws) (lookup_place.Post T laws numbered d)
+  lookup_place_one κs a z z' x x' p q = p ∙ sym q
 
 -- waits::standing::holds_it
 pub waits_holds_it_one : OneResult 0 waits_holds_it_kinds.ps waits_holds_it_kinds.r waits_holds_it.Post
 waits_holds_it_one κs a z z' e e' p q = p ∙ sym q
 
--- waits::standing::holds
-pub waits_holds_one : OneResult 0 waits_holds_kinds.ps waits_holds_kinds.r waits_holds.Post
+-- waits::Entries::holds
+pub waits_holds_one : OneResult 2 waits_holds_kinds.ps waits_holds_kinds.r waits_holds.Post
 waits_holds_one κs a z z' e e' p q = p ∙ sym q
 
--- waits::standing::running
-pub waits_running_one : OneResult 0 waits_running_kinds.ps waits_running_kinds.r waits_running.Post
+-- waits::Entries::running
+pub waits_running_one : OneResult 2 waits_running_kinds.ps waits_running_kinds.r waits_running.Post
 waits_running_one κs a z z' e e' p q = p ∙ sym q
 
--- waits::standing::heir
-pub waits_heir_one : OneResult 0 waits_heir_kinds.ps waits_heir_kinds.r waits_heir.Post
+-- waits::Entries::heir
+pub waits_heir_one : OneResult 2 waits_heir_kinds.ps waits_heir_kinds.r waits_heir.Post
 waits_heir_one κs a z z' e e' p q = p ∙ sym q
 
--- waits::standing::closes_ring
-pub waits_closes_ring_one : OneResult 0 waits_closes_ring_kinds.ps waits_closes_ring_kinds.r waits_closes_ring.Post
+-- waits::Entries::closes_ring
+pub waits_closes_ring_one : OneResult 2 waits_closes_ring_kinds.ps waits_closes_ring_kinds.r waits_closes_ring.Post
 waits_closes_ring_one κs a z z' e e' p q = p ∙ sym q
 
--- waits::standing::standing
-pub waits_standing_one : OneResult 0 waits_standing_kinds.ps waits_standing_kinds.r waits_standing.Post
+-- waits::Entries::standing
+pub waits_standing_one : OneResult 2 waits_standing_kinds.ps waits_standing_kinds.r waits_standing.Post
 waits_standing_one κs a z z' e e' p q = p ∙ sym q
 
 -- executive::calls::State::release
 pub release_one : OneResult 0 release_kinds.ps release_kinds.r release.Post
-release_one κs a z z' e e' p q = p ∙ sym q
+release_one κs a z z' e e' p q = step_apart z z' (p ∙ sym q)
 
 -- executive::calls::State::signal
 pub signal_one : OneResult 0 signal_kinds.ps signal_kinds.r signal.Post
-signal_one κs a z z' e e' p q = p ∙ sym q
+signal_one κs a z z' e e' p q = step_apart z z' (p ∙ sym q)
 
 -- executive::calls::State::withdraw
 pub withdraw_one : OneResult 0 withdraw_kinds.ps withdraw_kinds.r withdraw.Post
-withdraw_one κs a z z' e e' p q = p ∙ sym q
+withdraw_one κs a z z' e e' p q = step_apart z z' (p ∙ sym q)
 
 -- executive::calls::State::complete
 pub complete_one : OneResult 0 complete_kinds.ps complete_kinds.r complete.Post
-complete_one κs a z z' e e' p q = p ∙ sym q
+complete_one κs a z z' e e' p q = step_apart z z' (p ∙ sym q)
 
 -- executive::calls::State::block
 pub block_one : OneResult 0 block_kinds.ps block_kinds.r block.Post
-block_one κs a z z' e e' p q = p ∙ sym q
+block_one κs a z z' e e' p q = step_apart z z' (p ∙ sym q)
 
 -- executive::calls::State::acquire
 pub acquire_one : OneResult 0 acquire_kinds.ps acquire_kinds.r acquire.Post
-acquire_one κs a z z' e e' p q = p ∙ sym q
+acquire_one κs a z z' e e' p q = step_apart z z' (p ∙ sym q)
 
 -- executive::calls::State::give
 pub give_one : OneResult 0 give_kinds.ps give_kinds.r give.Post
-give_one κs a z z' e e' p q = p ∙ sym q
+give_one κs a z z' e e' p q = step_apart z z' (p ∙ sym q)
 
 -- executive::standing::State::running
-pub running_one : OneResult 0 running_kinds.ps running_kinds.r running.Post
+pub running_one : OneResult 1 running_kinds.ps running_kinds.r running.Post
 running_one κs a z z' e e' p q = p ∙ sym q
 
 -- executive::standing::State::standing
-pub standing_one : OneResult 0 standing_kinds.ps standing_kinds.r standing.Post
-standing_one κs a z z' e e' p q = p ∙ sym q
+pub standing_one : OneResult 1 standing_kinds.ps standing_kinds.r standing.Post
+standing_one κs a z z' e e' p q = stands_apart z z' (p ∙ sym q)
 
 -- executive::state::State::empty
 pub empty_one : OneResult 0 empty_kinds.ps empty_kinds.r empty.Post
@@ -322,7 +313,11 @@ empty_one κs a z z' e e' p q = p ∙ sym q
 
 -- executive::loaded::Loaded::refused
 pub loaded_refused_one : OneResult 0 loaded_refused_kinds.ps loaded_refused_kinds.r loaded_refused.Post
-loaded_refused_one κs a z z' e e' p q = p ∙ sym q
+loaded_refused_one κs a z z' e e' p q = reading_apart z z' (p ∙ sym q)
+
+-- executive::loaded::Loaded::accepted
+pub loaded_accepted_one : OneResult 0 loaded_accepted_kinds.ps loaded_accepted_kinds.r loaded_accepted.Post
+loaded_accepted_one κs a z z' e e' p q = reading_apart z z' (p ∙ sym q)
 
 -- records::decode
 pub decode_one : OneResult 1 decode_kinds.ps decode_kinds.r decode.Post
@@ -342,28 +337,28 @@ record_put_board_buffer κs a z z' e e' p q = p ∙ sym q
 
 -- image::load::load
 pub load_one : OneResult 1 load_kinds.ps load_kinds.r load.Post
-load_one κs a z z' e e' p q = p ∙ sym q
+load_one κs a z z' e e' p q = reading_apart z z' (p ∙ sym q)
 
 -- image::write::write
 pub write_one : OneResult 1 write_kinds.ps write_kinds.r write.Post
-write_one κs a z z' e e' p q = p.0 ∙ sym q.0
+write_one κs a z z' e e' p q = refusal_apart z z' (p.0 ∙ sym q.0)
 
 pub write_buffer : OneAtExit 1 write_kinds.ps write_kinds.r write.Post (λ κs e. e.1.0.now)
 write_buffer κs a z z' e e' p q = p.1 ∙ sym q.1
 
 -- linux::read::read
 pub list_read_one : OneResult 1 list_read_kinds.ps list_read_kinds.r list_read.Post
-list_read_one κs a z z' e e' p q = p ∙ sym q
+list_read_one κs a z z' e e' p q = reading_apart z z' (p ∙ sym q)
 
 -- linux::write::write
 pub list_write_one : OneResult 1 list_write_kinds.ps list_write_kinds.r list_write.Post
-list_write_one κs a z z' e e' p q = p.0 ∙ sym q.0
+list_write_one κs a z z' e e' p q = refusal_apart z z' (p.0 ∙ sym q.0)
 
 pub list_write_buffer : OneAtExit 1 list_write_kinds.ps list_write_kinds.r list_write.Post (λ κs e. e.1.0.now)
 list_write_buffer κs a z z' e e' p q = p.1 ∙ sym q.1
 
 -- charges::Counts::of
-pub counts_of_one : OneResult 0 counts_of_kinds.ps counts_of_kinds.r counts_of.Post
+pub counts_of_one : OneResult 1 counts_of_kinds.ps counts_of_kinds.r counts_of.Post
 counts_of_one κs a z z' e e' p q = p ∙ sym q
 
 -- charges::Counts::charge
@@ -376,7 +371,11 @@ counts_load_one κs a z z' e e' p q = p ∙ sym q
 
 -- judging::judge::judge
 pub judge_one : OneResult 0 judge_kinds.ps judge_kinds.r judge.Post
-judge_one κs a z z' e e' p q = p ∙ sym q
+judge_one κs a z z' e e' p q = told_apart z z' (p ∙ sym q)
+
+-- judging::judge::told
+pub judge_told_one : OneResult 0 judge_told_kinds.ps judge_told_kinds.r judge_told.Post
+judge_told_one κs a z z' e e' p q = p ∙ sym q
 
 -- report::report
 pub report_one : OneResult 2 report_kinds.ps report_kinds.r report.Post
@@ -408,7 +407,7 @@ rack_play_buffer κs a z z' e e' p q = p.contents ∙ sym q.contents
 
 -- rack::play::play_one
 pub play_one_one : OneResult 1 play_one_kinds.ps play_one_kinds.r play_one.Post
-play_one_one κs a z z' e e' p q = p ∙ sym q
+play_one_one κs a z z' e e' p q = tried_apart a.0 z z' (p ∙ sym q)
 
 -- rack::rewrite::rack_rewrite
 pub rack_rewrite_one : OneResult 2 rack_rewrite_kinds.ps rack_rewrite_kinds.r rack_rewrite.Post

@@ -1,20 +1,17 @@
 -- The laws of chains of waits: a chain passes each semaphore once, and what is computed over chains is what the closure says.
 -- Assumes nothing.
+use Rattle.std.specs.Prelude.{Option, Some, None}
 use Prim.Native.Nat.{ℕ, zero, suc, ◌+◌, ◌≤◌, ◌<◌}
 use mathlib.Core.Path.{◌≡◌, refl, sym, ap, subst, ◌∙◌}
 use mathlib.Core.Bool.{Bool, true, false, cond, ◌||◌}
 use mathlib.Core.List.{List}
 use native.Mathlib.Omega.{arith}
 use lib.Dec.{ltb, eqb}
-use lib.ListN.{length, take, get_or}
-use lib.Seq.{get_or-take}
+use lib.ListN.{length}
 use borrow.Author.Tests.{eq-eqb, ltb-true, ltb-false, eqb-true, eqb-false}
 use Rattle.table.specs.declared.Task.{Task}
 use Rattle.table.specs.declared.Sem.{Sem}
-use Rattle.table.specs.declared.Found.{Found}
-use Rattle.table.specs.declared.Found.TheVariants.{At, Nothing}
-use Rattle.table.specs.Entries.{blank_task, blank_sem}
-use Rattle.waits.specs.Waits.{task_at, sem_at, waits_for, held_by, holder_of, waits_on, Ends, Chained}
+use Rattle.waits.specs.Waits.{task_at, sem_at, waits_for, holder_of, waits_on, Ends, Chained}
 use Rattle.waits.specs.Standing.{found_and, passes, reaches}
 use Rattle.waits.specs.Reaches.{Reaches}
 
@@ -62,43 +59,34 @@ pigeon (suc m) (suc d) f below once = let h : d ≤ m = pigeon m d g g_below g_o
     g_once : (a b : ℕ) → a < d → b < d → g a ≡ g b → a ≡ b
     g_once a b ha hb e = differ a b (eqb (f a) m) (eqb (f b) m) refl refl ha hb e
 
--- the task at a position, and the semaphore at a place, among the first ones
-pub task_in_lem : (tasks : List Task) (n i : ℕ) → i < n → task_at (take n tasks) i ≡ get_or tasks i blank_task
-unfolding task_at
-task_in_lem tasks n i h = get_or-take n tasks i blank_task h
-
-pub sem_in_lem : (sems : List Sem) (m k : ℕ) → k < m → sem_at (take m sems) k ≡ get_or sems k blank_sem
-unfolding sem_at
-sem_in_lem sems m k h = get_or-take m sems k blank_sem h
-
 -- the chain of waits from a task on has so many waits
 pub data Long (tasks : List Task) (sems : List Sem) : ℕ → ℕ → Type 0 where
-  done : {i : ℕ} → waits_for (task_at tasks i).status ≡ Nothing → Long tasks sems i 0
-  more : {i k j d : ℕ} → waits_for (task_at tasks i).status ≡ At k → held_by (sem_at sems k).holder ≡ At j → Long tasks sems j d
+  done : {i : ℕ} → waits_for (task_at tasks i).status ≡ None → Long tasks sems i 0
+  more : {i k j d : ℕ} → waits_for (task_at tasks i).status ≡ Some k → (sem_at sems k).holder ≡ Some j → Long tasks sems j d
       → Long tasks sems i (suc d)
 
 module _ (tasks : List Task) (sems : List Sem) where
   -- who waits for a semaphore waits on its holder, and who waits for none on nobody
-  pub waits_held : (i k : ℕ) → waits_for (task_at tasks i).status ≡ At k → waits_on tasks sems i ≡ held_by (sem_at sems k).holder
+  pub waits_held : (i k : ℕ) → waits_for (task_at tasks i).status ≡ Some k → waits_on tasks sems i ≡ (sem_at sems k).holder
   unfolding waits_on holder_of
   waits_held i k w = rw w
 
-  pub waits_none : (i : ℕ) → waits_for (task_at tasks i).status ≡ Nothing → waits_on tasks sems i ≡ Nothing
+  pub waits_none : (i : ℕ) → waits_for (task_at tasks i).status ≡ None → waits_on tasks sems i ≡ None
   unfolding waits_on holder_of
   waits_none i w = rw w
 
   module _ (c : Chained tasks sems) where
     -- whom a task waits on is a task, and the wait is for a semaphore that it holds
-    pub on_held : (i j : ℕ) → i < length tasks → waits_on tasks sems i ≡ At j
-        → (k : ℕ) × (waits_for (task_at tasks i).status ≡ At k) × (k < length sems) × (held_by (sem_at sems k).holder ≡ At j)
+    pub on_held : (i j : ℕ) → i < length tasks → waits_on tasks sems i ≡ Some j
+        → (k : ℕ) × (waits_for (task_at tasks i).status ≡ Some k) × (k < length sems) × ((sem_at sems k).holder ≡ Some j)
         × (j < length tasks)
     on_held i j h e = go (waits_for (task_at tasks i).status) refl
       where
-        go : (f : Found) → waits_for (task_at tasks i).status ≡ f
-            → (k : ℕ) × (waits_for (task_at tasks i).status ≡ At k) × (k < length sems) × (held_by (sem_at sems k).holder ≡ At j)
+        go : (f : Option ℕ) → waits_for (task_at tasks i).status ≡ f
+            → (k : ℕ) × (waits_for (task_at tasks i).status ≡ Some k) × (k < length sems) × ((sem_at sems k).holder ≡ Some j)
             × (j < length tasks)
-        go Nothing w = let n = waits_none i w in let z : ◌≡◌ {A = ℕ} 0 1 = cc in absurd (omega arith)
-        go (At k) w =
+        go None w = let n = waits_none i w in let z : ◌≡◌ {A = ℕ} 0 1 = cc in absurd (omega arith)
+        go (Some k) w =
             let below = (c.waits i h k w).0 in
             let by = sym (waits_held i k w) ∙ e in
             (k, w, below, by, c.held k below j by)
@@ -107,9 +95,9 @@ module _ (tasks : List Task) (sems : List Sem) where
     pub long : (i : ℕ) → i < length tasks → Ends tasks sems i → (d : ℕ) × Long tasks sems i d
     long i h (Ends.here e) = go (waits_for (task_at tasks i).status) refl
       where
-        go : (f : Found) → waits_for (task_at tasks i).status ≡ f → (d : ℕ) × Long tasks sems i d
-        go Nothing w = (0, done w)
-        go (At k) w =
+        go : (f : Option ℕ) → waits_for (task_at tasks i).status ≡ f → (d : ℕ) × Long tasks sems i d
+        go None w = (0, done w)
+        go (Some k) w =
             let s = (c.waits i h k w).1 in
             let q = sym (waits_held i k w) ∙ e in
             let p = s.1 in
@@ -130,9 +118,9 @@ module _ (tasks : List Task) (sems : List Sem) where
       let p : j' ≡ j = same j j' k k' q h h' in
       ap suc (long_once l (subst (λ (x : ℕ). Long tasks sems x d') p l'))
     where
-      same : (j j' k k' : ℕ) → k ≡ k' → held_by (sem_at sems k).holder ≡ At j → held_by (sem_at sems k').holder ≡ At j' → j' ≡ j
+      same : (j j' k k' : ℕ) → k ≡ k' → (sem_at sems k).holder ≡ Some j → (sem_at sems k').holder ≡ Some j' → j' ≡ j
       same j j' k k' q h h' =
-          let e = ap (λ (x : ℕ). held_by (sem_at sems x).holder) q in
+          let e = ap (λ (x : ℕ). (sem_at sems x).holder) q in
           cc
 
   -- the semaphore that is waited for at a step of the chain
@@ -143,7 +131,7 @@ module _ (tasks : List Task) (sems : List Sem) where
 
   -- its holder's chain is shorter by the steps that were made
   on_rest : {i d : ℕ} (l : Long tasks sems i d) (a : ℕ) → a < d
-      → (j : ℕ) × (e : ℕ) × (held_by (sem_at sems (on l a)).holder ≡ At j) × Long tasks sems j e × (e + suc a ≡ d)
+      → (j : ℕ) × (e : ℕ) × ((sem_at sems (on l a)).holder ≡ Some j) × Long tasks sems j e × (e + suc a ≡ d)
   unfolding on
   on_rest (done w) a h = absurd (omega arith)
   on_rest (more {j = j} {d = d} w h l) zero k = (j, d, h, l, omega arith)
@@ -154,7 +142,7 @@ module _ (tasks : List Task) (sems : List Sem) where
   on_once l a b ha hb e =
       let r = on_rest l a ha in
       let q = on_rest l b hb in
-      let s = ap (λ (x : ℕ). held_by (sem_at sems x).holder) e in
+      let s = ap (λ (x : ℕ). (sem_at sems x).holder) e in
       let p = r.2 in
       let t = q.2 in
       let same : r.0 ≡ q.0 = cc in
@@ -190,11 +178,11 @@ module _ (tasks : List Task) (sems : List Sem) where
   passes_reaches (suc fuel) i j e =
       go (eqb j i) refl (waits_on tasks sems j) refl e (λ k. passes_reaches fuel i k)
     where
-      go : (b : Bool) → eqb j i ≡ b → (f : Found) → waits_on tasks sems j ≡ f → (b || found_and (passes tasks sems fuel i) f) ≡ true
+      go : (b : Bool) → eqb j i ≡ b → (f : Option ℕ) → waits_on tasks sems j ≡ f → (b || found_and (passes tasks sems fuel i) f) ≡ true
           → ((k : ℕ) → passes tasks sems fuel i k ≡ true → Reaches tasks sems i k) → Reaches tasks sems i j
       go true q f w e rec = subst (λ (x : ℕ). Reaches tasks sems i x) (sym (eqb-true j i q)) Reaches.here
-      go false q Nothing w e rec = let z : ◌≡◌ {A = ℕ} 0 1 = cc in absurd (omega arith)
-      go false q (At k) w e rec = Reaches.there w (rec k e)
+      go false q None w e rec = let z : ◌≡◌ {A = ℕ} 0 1 = cc in absurd (omega arith)
+      go false q (Some k) w e rec = Reaches.there w (rec k e)
 
   -- and what is so is computed, where the chain is not longer than what is looked at
   pub reaches_passes : (i : ℕ) {j d : ℕ} (fuel : ℕ) → Reaches tasks sems i j → Long tasks sems j d → d < fuel → passes tasks sems fuel i j ≡ true

@@ -2,6 +2,7 @@
 -- closure of waits, and the only one; a ready task of best standing runs, and nobody exactly if none is ready; no two ready tasks share a
 -- standing.
 -- Assumes nothing.
+use Rattle.std.specs.Prelude.{Some, None}
 use Prim.Native.Nat.{ℕ, ◌<◌}
 use mathlib.Core.Path.{◌≡◌, refl, ap, ◌∙◌}
 use mathlib.Core.Bool.{true, false}
@@ -12,15 +13,14 @@ use lib.ListN.{length}
 use borrow.Author.Tests.{eq-eqb}
 use Rattle.table.specs.declared.Task.{Task}
 use Rattle.table.specs.declared.Sem.{Sem}
-use Rattle.table.specs.declared.Found.TheVariants.{At, Nothing}
 use Rattle.table.specs.Entries.{blank_task}
 use Rattle.table.proofs.SumLaws.{any_none}
 use Rattle.waits.specs.declared.scan.Goal.{Goal}
 use Rattle.waits.specs.declared.standing.Rank.{Rank}
-use Rattle.waits.specs.Waits.{task_at, waits_for, holder_of, waits_on, Chained}
+use Rattle.waits.specs.Waits.{task_at, waits_on, Chained}
 use Rattle.waits.specs.Standing.{found_and, own_of, better, standing_of, ready_at, waiter_at, running_of, heir_of}
 use Rattle.waits.specs.Reaches.{Reaches, IsStanding}
-use Rattle.waits.specs.Scan.{taken_at, takes, waited_on}
+use Rattle.waits.specs.Scan.{taken_at, takes, on_holder, waited_on}
 use Rattle.waits.proofs.RankLaws.{better_total, IsBest, best_is, best_none, best_nothing}
 use Rattle.waits.proofs.ChainLaws.{on_held, reaches_true, true_reaches}
 use Rattle.waits.proofs.StandingLaws.{standing_at, taken_once, apart_ready}
@@ -34,20 +34,20 @@ standing_one tasks sems i a b x y =
 
 module _ (tasks : List Task) (sems : List Sem) where
   -- the running task and the heir are the best of those that may be
-  pub runs_is : (i : ℕ) → running_of tasks sems ≡ At i → IsBest (ready_at tasks) (standing_of tasks sems) (length tasks) i
+  pub runs_is : (i : ℕ) → running_of tasks sems ≡ Some i → IsBest (ready_at tasks) (standing_of tasks sems) (length tasks) i
   unfolding running_of
   runs_is i e = best_is (ready_at tasks) (standing_of tasks sems) (length tasks) i e
 
-  pub heir_is : (k i : ℕ) → heir_of tasks sems k ≡ At i → IsBest (waiter_at tasks k) (standing_of tasks sems) (length tasks) i
+  pub heir_is : (k i : ℕ) → heir_of tasks sems k ≡ Some i → IsBest (waiter_at tasks k) (standing_of tasks sems) (length tasks) i
   unfolding heir_of
   heir_is k i e = best_is (waiter_at tasks k) (standing_of tasks sems) (length tasks) i e
 
   -- nobody runs exactly if none is ready
-  pub runs_none : running_of tasks sems ≡ Nothing → (j : ℕ) → j < length tasks → ready_at tasks j ≡ false
+  pub runs_none : running_of tasks sems ≡ None → (j : ℕ) → j < length tasks → ready_at tasks j ≡ false
   unfolding running_of
   runs_none e j h = best_none (ready_at tasks) (standing_of tasks sems) (length tasks) e j h
 
-  pub none_runs : ((j : ℕ) → j < length tasks → ready_at tasks j ≡ false) → running_of tasks sems ≡ Nothing
+  pub none_runs : ((j : ℕ) → j < length tasks → ready_at tasks j ≡ false) → running_of tasks sems ≡ None
   unfolding running_of
   none_runs h = best_nothing (ready_at tasks) (standing_of tasks sems) (length tasks) h
 
@@ -62,7 +62,7 @@ module _ (tasks : List Task) (sems : List Sem) (c : Chained tasks sems) where
       }
 
   -- a task on which nobody waits has its own standing
-  pub nobody_waits : (i : ℕ) → i < length tasks → ((j : ℕ) → j < length tasks → waits_on tasks sems j ≡ At i → ⊥)
+  pub nobody_waits : (i : ℕ) → i < length tasks → ((j : ℕ) → j < length tasks → waits_on tasks sems j ≡ Some i → ⊥)
       → standing_of tasks sems i ≡ own_of tasks i
   nobody_waits i h none =
       let w = (standing_is i h).some in
@@ -72,18 +72,18 @@ module _ (tasks : List Task) (sems : List Sem) (c : Chained tasks sems) where
       alone j hj (Reaches.here) = refl
       alone j hj (Reaches.there {k = k} e r) = absurd (waited j k hj e r)
         where
-          waited : (j k : ℕ) → j < length tasks → waits_on tasks sems j ≡ At k → Reaches tasks sems i k → ⊥
+          waited : (j k : ℕ) → j < length tasks → waits_on tasks sems j ≡ Some k → Reaches tasks sems i k → ⊥
           waited j k hj e (Reaches.here) = none j hj e
           waited j k hj e (Reaches.there {k = next} f r) = waited k next (on_held tasks sems c j k hj e).4 f r
 
   -- the same, where that is what was asked
   pub not_waited_on : (i : ℕ) → i < length tasks → waited_on tasks sems i ≡ false → standing_of tasks sems i ≡ own_of tasks i
-  unfolding waited_on waits_on task_at found_and
+  unfolding waited_on on_holder waits_on task_at found_and
   not_waited_on i h none =
       nobody_waits i h
       (λ j hj e.
-      let no = any_none (λ (t : Task). found_and (λ at. eqb at i) (holder_of sems (waits_for t.status))) tasks none j hj blank_task in
-      let yes : found_and (λ at. eqb at i) (At i) ≡ true = eq-eqb i i refl in
+      let no = any_none (on_holder sems i) tasks none j hj blank_task in
+      let yes : found_and (λ at. eqb at i) (Some i) ≡ true = eq-eqb i i refl in
       let same = ap (found_and (λ at. eqb at i)) e in
       let z : ◌≡◌ {A = ℕ} 0 1 = cc in
       omega arith)

@@ -1,5 +1,6 @@
 -- The laws of own standings: the order is strict and total, and the best among some is one, and no other is better.
 -- Assumes nothing.
+use Rattle.std.specs.Prelude.{Option, Some, None}
 use Prim.Native.Nat.{ℕ, zero, suc, ◌<◌}
 use mathlib.Core.Path.{◌≡◌, refl, sym, ap, subst, ◌∙◌}
 use mathlib.Core.Logic.{◌⊎◌, inl, inr, ⊎_elim}
@@ -9,8 +10,6 @@ use native.Mathlib.Omega.{arith}
 use lib.Dec.{ltb, eqb}
 use borrow.Author.Tests.{lt-ltb, eq-eqb, ltb-true, ltb-false, eqb-true, eqb-false}
 use Rattle.table.specs.declared.Task.{Task}
-use Rattle.table.specs.declared.Found.{Found}
-use Rattle.table.specs.declared.Found.TheVariants.{At, Nothing}
 use Rattle.waits.specs.declared.standing.Rank.{Rank}
 use Rattle.waits.specs.Standing.{better, own_of, preferred, best_among}
 
@@ -132,9 +131,9 @@ module _ (test : ℕ → Bool) (rank : ℕ → Rank) where
     pub passes : test b ≡ true
     pub best : (j : ℕ) → j < n → test j ≡ true → better (rank j) (rank b) ≡ false
 
-  abbrev Says : ℕ → Found → Type 0
-  Says n Nothing = (j : ℕ) → j < n → test j ≡ false
-  Says n (At b) = IsBest n b
+  abbrev Says : ℕ → Option ℕ → Type 0
+  Says n None = (j : ℕ) → j < n → test j ≡ false
+  Says n (Some b) = IsBest n b
 
   last_or : (n j : ℕ) (P : ℕ → Type 0) → j < suc n → P n → (j < n → P j) → P j
   last_or n j P h here before = go (eqb j n) refl
@@ -147,9 +146,9 @@ module _ (test : ℕ → Bool) (rank : ℕ → Rank) where
           near true l = ltb-true j n l
           near false l = let m = ltb-false j n l in absurd (eqb-false j n e (omega arith))
 
-  skip : (n : ℕ) (best : Found) → test n ≡ false → Says n best → Says (suc n) best
-  skip n Nothing t says = λ j h. last_or n j (λ x. test x ≡ false) h t (says j)
-  skip n (At b) t says =
+  skip : (n : ℕ) (best : Option ℕ) → test n ≡ false → Says n best → Says (suc n) best
+  skip n None t says = λ j h. last_or n j (λ x. test x ≡ false) h t (says j)
+  skip n (Some b) t says =
       let below = says.below in
       record {
         below = omega arith;
@@ -158,16 +157,16 @@ module _ (test : ℕ → Bool) (rank : ℕ → Rank) where
             (λ q. let z : ◌≡◌ {A = ℕ} 0 1 = cc in absurd (omega arith)) (says.best j) p;
       }
 
-  take_it : (n : ℕ) (best : Found) → test n ≡ true → Says n best → Says (suc n) (preferred rank n best)
+  take_it : (n : ℕ) (best : Option ℕ) → test n ≡ true → Says n best → Says (suc n) (preferred rank n best)
   unfolding preferred
-  take_it n Nothing t says =
+  take_it n None t says =
       record {
         below = omega arith;
         passes = t;
         best = λ j h p. last_or n j (λ x. test x ≡ true → better (rank x) (rank n) ≡ false) h
             (λ q. better_irrefl (rank n)) (λ k q. let no = says j k in let z : ◌≡◌ {A = ℕ} 0 1 = cc in absurd (omega arith)) p;
       }
-  take_it n (At b) t says = go (better (rank n) (rank b)) refl
+  take_it n (Some b) t says = go (better (rank n) (rank b)) refl
     where
       below : b < n
       below = says.below
@@ -178,7 +177,7 @@ module _ (test : ℕ → Bool) (rank : ℕ → Rank) where
       past j true e u v =
           let w = better_trans (rank j) (rank n) (rank b) e u in let z : ◌≡◌ {A = ℕ} 0 1 = cc in absurd (omega arith)
 
-      go : (c : Bool) → better (rank n) (rank b) ≡ c → Says (suc n) (cond c (At n) (At b))
+      go : (c : Bool) → better (rank n) (rank b) ≡ c → Says (suc n) (cond c (Some n) (Some b))
       go true e =
           record {
             below = omega arith;
@@ -203,28 +202,28 @@ module _ (test : ℕ → Bool) (rank : ℕ → Rank) where
       go false t says = skip n (best_among test rank n) t says
 
   -- what is answered is the best
-  pub best_is : (n b : ℕ) → best_among test rank n ≡ At b → IsBest n b
-  best_is n b e = subst (λ (f : Found). Says n f) e (best_says n)
+  pub best_is : (n b : ℕ) → best_among test rank n ≡ Some b → IsBest n b
+  best_is n b e = subst (λ (f : Option ℕ). Says n f) e (best_says n)
 
   -- where nothing is answered, none passes
-  pub best_none : (n : ℕ) → best_among test rank n ≡ Nothing → (j : ℕ) → j < n → test j ≡ false
-  best_none n e = subst (λ (f : Found). Says n f) e (best_says n)
+  pub best_none : (n : ℕ) → best_among test rank n ≡ None → (j : ℕ) → j < n → test j ≡ false
+  best_none n e = subst (λ (f : Option ℕ). Says n f) e (best_says n)
 
   -- where one passes, one is answered
-  pub best_some : (n j : ℕ) → j < n → test j ≡ true → (b : ℕ) × (best_among test rank n ≡ At b)
+  pub best_some : (n j : ℕ) → j < n → test j ≡ true → (b : ℕ) × (best_among test rank n ≡ Some b)
   best_some n j h t = go (best_among test rank n) refl
     where
-      go : (f : Found) → best_among test rank n ≡ f → (b : ℕ) × (best_among test rank n ≡ At b)
-      go (At b) e = (b, e)
-      go Nothing e = let no = best_none n e j h in let z : ◌≡◌ {A = ℕ} 0 1 = cc in absurd (omega arith)
+      go : (f : Option ℕ) → best_among test rank n ≡ f → (b : ℕ) × (best_among test rank n ≡ Some b)
+      go (Some b) e = (b, e)
+      go None e = let no = best_none n e j h in let z : ◌≡◌ {A = ℕ} 0 1 = cc in absurd (omega arith)
 
   -- where none passes, nothing is answered
-  pub best_nothing : (n : ℕ) → ((j : ℕ) → j < n → test j ≡ false) → best_among test rank n ≡ Nothing
+  pub best_nothing : (n : ℕ) → ((j : ℕ) → j < n → test j ≡ false) → best_among test rank n ≡ None
   best_nothing n h = go (best_among test rank n) refl
     where
-      go : (f : Found) → best_among test rank n ≡ f → best_among test rank n ≡ Nothing
-      go Nothing e = e
-      go (At b) e =
+      go : (f : Option ℕ) → best_among test rank n ≡ f → best_among test rank n ≡ None
+      go None e = e
+      go (Some b) e =
           let i = best_is n b e in
           let no = h b i.below in
           let yes = i.passes in
@@ -233,12 +232,12 @@ module _ (test : ℕ → Bool) (rank : ℕ → Rank) where
 
   -- the best is answered, where no two that pass share a rank
   pub best_only : (n b : ℕ) → IsBest n b
-      → ((i j : ℕ) → i < n → j < n → test i ≡ true → test j ≡ true → rank i ≡ rank j → i ≡ j) → best_among test rank n ≡ At b
+      → ((i j : ℕ) → i < n → j < n → test i ≡ true → test j ≡ true → rank i ≡ rank j → i ≡ j) → best_among test rank n ≡ Some b
   best_only n b is once =
       let s = best_some n b is.below is.passes in
       let i = best_is n s.0 s.1 in
       s.1
-      ∙ ap At
+      ∙ ap Some
       (once s.0 b i.below is.below i.passes is.passes
       (better_total (rank s.0) (rank b) (is.best s.0 i.below i.passes) (i.best b is.below is.passes)))
 
@@ -249,4 +248,4 @@ unfolding best_among
 best_same test other rank zero h = refl
 best_same test other rank (suc n) h =
     ap (λ (b : Bool). cond b (preferred rank n) (λ best. best) (best_among test rank n)) (h n (omega arith))
-    ∙ ap (λ (f : Found). cond (other n) (preferred rank n) (λ best. best) f) (best_same test other rank n (λ j k. h j (omega arith)))
+    ∙ ap (λ (f : Option ℕ). cond (other n) (preferred rank n) (λ best. best) f) (best_same test other rank n (λ j k. h j (omega arith)))

@@ -1,44 +1,44 @@
 -- The laws of standing: what is computed is the standing of the closure, and the one scan finds the task of best standing.
 -- Assumes nothing.
-use Prim.Native.Nat.{ℕ, suc, ◌+◌, ◌≤◌, ◌<◌}
+use Rattle.std.specs.Prelude.{Option, Some, None}
+use Prim.Native.Nat.{ℕ, suc, ◌≤◌, ◌<◌}
 use mathlib.Core.Path.{◌≡◌, refl, sym, ap, subst, ◌∙◌}
-use mathlib.Core.Bool.{Bool, true, false, not}
+use mathlib.Core.Bool.{Bool, true, false}
 use mathlib.Core.List.{List}
 use native.Mathlib.Omega.{arith}
-use lib.Dec.{leb, ltb, eqb}
-use lib.ListN.{length, get_or, take, get_or-eq_default}
-use borrow.Author.Tests.{le-ltb, le-leb, ltb-true, ltb-false, eqb-true, ne_eqb, eq-eqb}
+use lib.Dec.{ltb, eqb}
+use lib.ListN.{length, get_or-eq_default}
+use borrow.Author.Tests.{ltb-true, ltb-false, eqb-true, eq-eqb}
 use Rattle.table.specs.declared.Task.{Task}
 use Rattle.table.specs.declared.Sem.{Sem}
 use Rattle.table.specs.declared.Status.{Status}
 use Rattle.table.specs.declared.Status.TheVariants.{Idle, Ready, Event, Waits}
-use Rattle.table.specs.declared.Found.{Found}
-use Rattle.table.specs.declared.Found.TheVariants.{At, Nothing}
 use Rattle.table.specs.Entries.{blank_task}
 use Rattle.waits.specs.declared.scan.Goal.{Goal}
 use Rattle.waits.specs.declared.scan.Goal.TheVariants.{Is, WaitsFor}
+use Rattle.waits.specs.declared.scan.Lead.{Lead}
+use Rattle.waits.specs.declared.scan.Lead.TheVariants.{Nobody, ToSem, Met}
 use Rattle.waits.specs.declared.scan.Best.{Best}
-use Rattle.waits.specs.Waits.{task_at, sem_at, waits_for, held_by, Chained}
-use Rattle.waits.specs.Standing.{found_and, found_or, own_rank, own_of, reaches, best_among, standing_of, is_idle, is_ready, is_event, is_none, ready_at, waiter_at, running_of, heir_of, closes_ring}
-use Rattle.waits.specs.Doing.{doing_of}
+use Rattle.waits.specs.Waits.{task_at, sem_at, waits_for, Chained}
+use Rattle.waits.specs.Standing.{found_and, found_or, own_of, reaches, best_among, standing_of, is_ready, ready_at, waiter_at, running_of, heir_of, closes_ring}
 use Rattle.waits.specs.Reaches.{Reaches}
-use Rattle.waits.specs.Scan.{takes, taken_at, onward, meets, met_by, sem_code, met_code, winner_of, best_for, no_best, as_best, met_found, scan_of, walked}
+use Rattle.waits.specs.Scan.{takes, taken_at, onward, meets, met_by, to_met, led_by, Linked, winner_of, best_for, as_best, met_found, scan_of, walked, ended}
 use Rattle.waits.proofs.RankLaws.{better_total, own_once, IsBest, best_is, best_none, best_some, best_nothing, best_only, best_same}
-use Rattle.waits.proofs.ChainLaws.{Long, task_in_lem, waits_held, waits_none, on_held, long_once, chain, reached_below, reaches_true, true_reaches}
-use Rattle.waits.proofs.ScanLaws.{led_by, Linked, meets_is, Apart, is_met, walked_step, walked_stays, walked_meets}
+use Rattle.waits.proofs.ChainLaws.{Long, waits_held, waits_none, on_held, long_once, chain, reached_below, reaches_true, true_reaches}
+use Rattle.waits.proofs.ScanLaws.{meets_is, Apart, is_met, walked_step, walked_stays, walked_meets}
 
 -- something was found, or nothing
-pub some_found : (f : Found) → found_and (λ _. true) f ≡ true → (i : ℕ) × (f ≡ At i)
+pub some_found : (f : Option ℕ) → found_and (λ _. true) f ≡ true → (i : ℕ) × (f ≡ Some i)
 unfolding found_and
-some_found Nothing e = let z : ◌≡◌ {A = ℕ} 0 1 = cc in absurd (omega arith)
-some_found (At i) e = (i, refl)
+some_found None e = let z : ◌≡◌ {A = ℕ} 0 1 = cc in absurd (omega arith)
+some_found (Some i) e = (i, refl)
 
-pub found_some : (f : Found) (i : ℕ) → f ≡ At i → found_and (λ _. true) f ≡ true
+pub found_some : (f : Option ℕ) (i : ℕ) → f ≡ Some i → found_and (λ _. true) f ≡ true
 unfolding found_and
 found_some f i e = rw e
 
 -- a status that is ready waits for nothing
-pub ready_waits : (now : Status) → is_ready now ≡ true → waits_for now ≡ Nothing
+pub ready_waits : (now : Status) → is_ready now ≡ true → waits_for now ≡ None
 unfolding is_ready waits_for
 ready_waits Idle e = refl
 ready_waits Ready e = refl
@@ -46,37 +46,13 @@ ready_waits Event e = refl
 ready_waits (Waits k) e = let z : ◌≡◌ {A = ℕ} 0 1 = cc in absurd (omega arith)
 
 -- a semaphore that was found to be k is k
-pub found_same : (f : Found) (k : ℕ) → found_and (λ at. eqb at k) f ≡ true → f ≡ At k
+pub found_same : (f : Option ℕ) (k : ℕ) → found_and (λ at. eqb at k) f ≡ true → f ≡ Some k
 unfolding found_and
-found_same Nothing k e = let z : ◌≡◌ {A = ℕ} 0 1 = cc in absurd (omega arith)
-found_same (At at) k e = ap At (eqb-true at k e)
-
--- the place that stands for nobody is none of the semaphores
-pub code_same : (f : Found) (k : ℕ) → k < 32 → eqb (sem_code f) k ≡ found_and (λ at. eqb at k) f
-unfolding sem_code found_and
-code_same Nothing k small = ne_eqb 32 k (λ e. omega arith)
-code_same (At at) k small = refl
-
-code_found : (f : Found) (k : ℕ) → k < 32 → eqb (sem_code f) k ≡ true → f ≡ At k
-code_found f k small e = found_same f k (sym (code_same f k small) ∙ e)
-
--- what a task is doing, by its number
-pub doing_is : (now : Status)
-    → (eqb (doing_of now) 0 ≡ is_idle now) × (eqb (doing_of now) 1 ≡ is_ready now) × (eqb (doing_of now) 2 ≡ is_event now)
-    × (eqb (doing_of now) 3 ≡ not (is_none (waits_for now)))
-unfolding doing_of is_idle is_ready is_event is_none found_and waits_for
-doing_is Idle = (refl, refl, refl, refl)
-doing_is Ready = (refl, refl, refl, refl)
-doing_is Event = (refl, refl, refl, refl)
-doing_is (Waits k) = (refl, refl, refl, refl)
-
--- the entry at a position that is in use has the own standing of the task there
-pub own_is : (tasks : List Task) (n i : ℕ) → i < n → own_rank (get_or tasks i blank_task) i ≡ own_of (take n tasks) i
-unfolding own_of
-own_is tasks n i h = ap (λ (t : Task). own_rank t i) (sym (task_in_lem tasks n i h))
+found_same None k e = let z : ◌≡◌ {A = ℕ} 0 1 = cc in absurd (omega arith)
+found_same (Some at) k e = ap Some (eqb-true at k e)
 
 -- who waits for a semaphore is a task that there is
-pub waits_below : (tasks : List Task) (a k : ℕ) → waits_for (task_at tasks a).status ≡ At k → a < length tasks
+pub waits_below : (tasks : List Task) (a k : ℕ) → waits_for (task_at tasks a).status ≡ Some k → a < length tasks
 unfolding task_at waits_for
 waits_below tasks a k w = go (ltb a (length tasks)) refl
   where
@@ -84,7 +60,7 @@ waits_below tasks a k w = go (ltb a (length tasks)) refl
     go true e = ltb-true a (length tasks) e
     go false e =
         let d = get_or-eq_default tasks blank_task {n = a} (ltb-false a (length tasks) e) in
-        let n : waits_for (task_at tasks a).status ≡ Nothing = ap (λ (t : Task). waits_for t.status) d in
+        let n : waits_for (task_at tasks a).status ≡ None = ap (λ (t : Task). waits_for t.status) d in
         let z : ◌≡◌ {A = ℕ} 0 1 = cc in
         absurd (omega arith)
 
@@ -112,16 +88,16 @@ module _ (tasks : List Task) (sems : List Sem) (c : Chained tasks sems) where
   unfolding taken_at takes
   apart_is i a b ta tb r = eqb-true a i ta ∙ sym (eqb-true b i tb)
 
-  pub apart_waits : (k : ℕ) → k < 32 → Apart tasks sems (WaitsFor k)
+  pub apart_waits : (k : ℕ) → Apart tasks sems (WaitsFor k)
   unfolding taken_at takes
-  apart_waits k small a b ta tb (Reaches.here) = refl
-  apart_waits k small a b ta tb (Reaches.there {k = h} w r) =
-      let fa = code_found (waits_for (task_at tasks a).status) k small ta in
-      let fb = code_found (waits_for (task_at tasks b).status) k small tb in
+  apart_waits k a b ta tb (Reaches.here) = refl
+  apart_waits k a b ta tb (Reaches.there {k = h} w r) =
+      let fa = found_same (waits_for (task_at tasks a).status) k ta in
+      let fb = found_same (waits_for (task_at tasks b).status) k tb in
       let o = on_held tasks sems c a h (waits_below tasks a k fa) w in
       let q = o.1 in
       let same : o.0 ≡ k = cc in
-      let by : held_by (sem_at sems k).holder ≡ At h = subst (λ (x : ℕ). held_by (sem_at sems x).holder ≡ At h) same o.3 in
+      let by : (sem_at sems k).holder ≡ Some h = subst (λ (x : ℕ). (sem_at sems x).holder ≡ Some h) same o.3 in
       let l = chain tasks sems c h o.4 in
       let s = reached_long r l.1 in
       let less = s.2 in
@@ -131,7 +107,7 @@ module _ (tasks : List Task) (sems : List Sem) (c : Chained tasks sems) where
   -- the standing of a task is the own standing of the best that reaches it
   pub standing_at : (i : ℕ) → i < length tasks
       → (w : ℕ) × (standing_of tasks sems i ≡ own_of tasks w) × IsBest (reaches tasks sems i) (own_of tasks) (length tasks) w
-      × (best_among (reaches tasks sems i) (own_of tasks) (length tasks) ≡ At w)
+      × (best_among (reaches tasks sems i) (own_of tasks) (length tasks) ≡ Some w)
   unfolding standing_of found_or
   standing_at i h =
       let s = best_some (reaches tasks sems i) (own_of tasks) (length tasks) i h (reaches_true tasks sems c i i h Reaches.here) in
@@ -142,14 +118,14 @@ module _ (tasks : List Task) (sems : List Sem) (c : Chained tasks sems) where
     test j = found_and (λ _. true) (met_by tasks sems goal j)
 
     -- who reaches a task that the goal takes meets it
-    pub reached_met : (e j : ℕ) → j < length tasks → taken_at tasks goal e ≡ true → reaches tasks sems e j ≡ true → met_by tasks sems goal j ≡ At e
+    pub reached_met : (e j : ℕ) → j < length tasks → taken_at tasks goal e ≡ true → reaches tasks sems e j ≡ true → met_by tasks sems goal j ≡ Some e
     unfolding met_by
     reached_met e j h t r =
         let l = chain tasks sems c j h in
         let b = l.2 in
         is_met tasks sems goal apart (suc (length sems)) t (true_reaches tasks sems c e j r) l.1 (omega arith)
 
-    met_reached : (e j : ℕ) → j < length tasks → met_by tasks sems goal j ≡ At e
+    met_reached : (e j : ℕ) → j < length tasks → met_by tasks sems goal j ≡ Some e
         → (taken_at tasks goal e ≡ true) × (reaches tasks sems e j ≡ true) × (e < length tasks)
     unfolding met_by
     met_reached e j h m =
@@ -169,7 +145,7 @@ module _ (tasks : List Task) (sems : List Sem) (c : Chained tasks sems) where
         cc
 
     -- the task that the best one meets is of best standing
-    champion_at : (w e : ℕ) → IsBest test (own_of tasks) (length tasks) w → met_by tasks sems goal w ≡ At e
+    champion_at : (w e : ℕ) → IsBest test (own_of tasks) (length tasks) w → met_by tasks sems goal w ≡ Some e
         → IsBest (taken_at tasks goal) (standing_of tasks sems) (length tasks) e
     unfolding test
     champion_at w e best met =
@@ -194,10 +170,10 @@ module _ (tasks : List Task) (sems : List Sem) (c : Chained tasks sems) where
     unfolding winner_of onward test
     champion = go (winner_of tasks sems goal (length tasks)) refl
       where
-        go : (f : Found) → best_among test (own_of tasks) (length tasks) ≡ f
+        go : (f : Option ℕ) → best_among test (own_of tasks) (length tasks) ≡ f
             → best_among (taken_at tasks goal) (standing_of tasks sems) (length tasks)
             ≡ onward (met_by tasks sems goal) (best_among test (own_of tasks) (length tasks))
-        go Nothing e =
+        go None e =
             rw e
             (best_nothing (taken_at tasks goal) (standing_of tasks sems) (length tasks)
             (λ j h. none j h (taken_at tasks goal j) refl))
@@ -210,7 +186,7 @@ module _ (tasks : List Task) (sems : List Sem) (c : Chained tasks sems) where
                 let no = best_none test (own_of tasks) (length tasks) e j h in
                 let z : ◌≡◌ {A = ℕ} 0 1 = cc in
                 absurd (omega arith)
-        go (At w) e =
+        go (Some w) e =
             let best = best_is test (own_of tasks) (length tasks) w e in
             let m = some_found (met_by tasks sems goal w) best.passes in
             rw e
@@ -218,50 +194,45 @@ module _ (tasks : List Task) (sems : List Sem) (c : Chained tasks sems) where
             ∙ sym m.1)
 
     -- what the scan hands back tells that task
-    pub scan_found : met_found (best_for tasks sems goal (winner_of tasks sems goal (length tasks)))
-        ≡ best_among (taken_at tasks goal) (standing_of tasks sems) (length tasks)
-    unfolding winner_of test met_found best_for no_best as_best met_code onward
+    pub scan_found : met_found (scan_of tasks sems goal) ≡ best_among (taken_at tasks goal) (standing_of tasks sems) (length tasks)
+    unfolding winner_of test best_for found_or onward
     scan_found = go (winner_of tasks sems goal (length tasks)) refl ∙ sym champion
       where
-        go : (f : Found) → best_among test (own_of tasks) (length tasks) ≡ f
+        go : (f : Option ℕ) → best_among test (own_of tasks) (length tasks) ≡ f
             → met_found (best_for tasks sems goal (best_among test (own_of tasks) (length tasks)))
             ≡ onward (met_by tasks sems goal) (best_among test (own_of tasks) (length tasks))
-        go Nothing e = rw e
-        go (At w) e =
+        go None e = rw e
+        go (Some w) e =
             let m = some_found (met_by tasks sems goal w) (best_is test (own_of tasks) (length tasks) w e).passes in
-            rw (e, m.1) (rw (le-ltb (64 + m.0) 64 (omega arith)) (ap At (omega arith)))
+            rw (e, m.1)
 
 -- what the scan hands back for each goal, and where the table of links leads
 module _ (tasks : List Task) (sems : List Sem) (c : Chained tasks sems) where
   -- the running task
-  pub scanned_runs : (best : Best) (f : Found) → best ≡ scan_of tasks sems Goal.Ready (length tasks) → f ≡ met_found best → f ≡ running_of tasks sems
+  pub scanned_runs : met_found (scan_of tasks sems Goal.Ready) ≡ running_of tasks sems
   unfolding running_of ready_at taken_at takes
-  scanned_runs best f e g = g ∙ ap met_found e ∙ scan_found tasks sems c Goal.Ready (apart_ready tasks sems c)
+  scanned_runs = scan_found tasks sems c Goal.Ready (apart_ready tasks sems c)
 
   -- the heir
-  pub scanned_heir : (k : ℕ) → k < 32 → (best : Best) (f : Found) → best ≡ scan_of tasks sems (WaitsFor k) (length tasks) → f ≡ met_found best
-      → f ≡ heir_of tasks sems k
+  pub scanned_heir : (k : ℕ) → met_found (scan_of tasks sems (WaitsFor k)) ≡ heir_of tasks sems k
   unfolding heir_of waiter_at taken_at takes
-  scanned_heir k small best f e g =
-      g ∙ ap met_found e ∙ scan_found tasks sems c (WaitsFor k) (apart_waits tasks sems c k small)
-      ∙ best_same (taken_at tasks (WaitsFor k)) (waiter_at tasks k) (standing_of tasks sems) (length tasks)
-      (λ j h. code_same (waits_for (task_at tasks j).status) k small)
+  scanned_heir k = scan_found tasks sems c (WaitsFor k) (apart_waits tasks sems c k)
 
   -- who meets a task is who reaches it
   is_reaches : (i j : ℕ) → j < length tasks → found_and (λ _. true) (met_by tasks sems (Is i) j) ≡ reaches tasks sems i j
   unfolding taken_at takes met_by
   is_reaches i j hj = go (reaches tasks sems i j) refl (met_by tasks sems (Is i) j) refl
     where
-      go : (b : Bool) → reaches tasks sems i j ≡ b → (f : Found) → met_by tasks sems (Is i) j ≡ f
+      go : (b : Bool) → reaches tasks sems i j ≡ b → (f : Option ℕ) → met_by tasks sems (Is i) j ≡ f
           → found_and (λ _. true) (met_by tasks sems (Is i) j) ≡ reaches tasks sems i j
       go true r f m =
           found_some (met_by tasks sems (Is i) j) i (reached_met tasks sems c (Is i) (apart_is tasks sems c i) i j hj (eq-eqb i i refl) r)
           ∙ sym r
-      go false r Nothing m = ap (found_and (λ _. true)) m ∙ nothing ∙ sym r
+      go false r None m = ap (found_and (λ _. true)) m ∙ nothing ∙ sym r
         where
-          nothing : found_and (λ _. true) Nothing ≡ false
+          nothing : found_and (λ _. true) None ≡ false
           nothing = unfold found_and in refl
-      go false r (At e) m =
+      go false r (Some e) m =
           let q = meets_is tasks sems (Is i) (suc (length sems)) j e m in
           let same : e ≡ i = eqb-true e i q.0 in
           let yes = reaches_true tasks sems c i j hj (subst (λ (x : ℕ). Reaches tasks sems x j) same q.1) in
@@ -269,40 +240,54 @@ module _ (tasks : List Task) (sems : List Sem) (c : Chained tasks sems) where
           absurd (omega arith)
 
   -- the standing of a task
-  pub scanned_standing : (i : ℕ) → i < length tasks → (best : Best) → best ≡ scan_of tasks sems (Is i) (length tasks)
-      → (best.position < length tasks) × (standing_of tasks sems i ≡ own_of tasks best.position)
-  unfolding winner_of best_for as_best
+  pub scanned_standing : (i : ℕ) → i < length tasks → (best : Option Best) → best ≡ scan_of tasks sems (Is i)
+      → (b : Best) × (best ≡ Some b) × (b.rank ≡ standing_of tasks sems i)
+  unfolding winner_of best_for own_of
   scanned_standing i h best e =
       let w = standing_at tasks sems c i h in
       let same = best_same (λ j. found_and (λ _. true) (met_by tasks sems (Is i) j)) (reaches tasks sems i) (own_of tasks) (length tasks)
       (λ j hj. is_reaches i j hj) in
       let wins = same ∙ w.3 in
-      let is : best.position ≡ w.0 = ap (λ (b : Best). b.position) (e ∙ ap (best_for tasks sems (Is i)) wins) in
-      let below = w.2.below in
-      (omega arith, w.1 ∙ ap (own_of tasks) (sym is))
+      (as_best (task_at tasks w.0) w.0 (found_or w.0 (met_by tasks sems (Is i) w.0)), e ∙ ap (best_for tasks sems (Is i)) wins, sym w.1)
 
   -- the ring that an acquire would close shows in the table
-  module _ (i k : ℕ) (hk : k < length sems) (small : length sems ≤ 16) (link : List ℕ) (linked : Linked tasks sems (Is i) link) where
-    met_found_lem : (f : Found) → leb 64 (met_code f) ≡ found_and (λ _. true) f
-    unfolding met_code found_and
-    met_found_lem Nothing = refl
-    met_found_lem (At e) = le-leb 64 (64 + e) (omega arith)
+  module _ (i k : ℕ) (hk : k < length sems) (small : length sems ≤ 16) (link : List Lead) (linked : Linked tasks sems (Is i) link) where
+    is_met_lead : Lead → Bool
+    is_met_lead Nobody = false
+    is_met_lead (ToSem at) = false
+    is_met_lead (Met e) = true
 
-    ring_code : (r : Found) → held_by (sem_at sems k).holder ≡ r → closes_ring tasks sems i k ≡ leb 64 (walked 17 link k)
-    unfolding closes_ring found_and led_by
-    ring_code Nothing e =
-        let w = walked_step 16 link k (omega arith) ∙ ap (walked 16 link) (linked.leads k hk ∙ ap (led_by tasks (Is i)) e)
-        ∙ walked_stays 16 link 32 (omega arith) in
+    met_found_lem : (f : Option ℕ) → is_met_lead (to_met f) ≡ found_and (λ _. true) f
+    unfolding is_met_lead found_and
+    met_found_lem None = refl
+    met_found_lem (Some e) = refl
+
+    ring_code : (r : Option ℕ) → (sem_at sems k).holder ≡ r → closes_ring tasks sems i k ≡ is_met_lead (walked 17 link (ToSem k))
+    unfolding closes_ring found_and led_by ended is_met_lead
+    ring_code None e =
+        let w = walked_step 16 link k (omega arith) ∙ ap (walked 16 link) (linked k hk ∙ ap (led_by tasks (Is i)) e)
+        ∙ walked_stays 16 link Nobody refl in
         rw (e, w)
-    ring_code (At j) e =
+    ring_code (Some j) e =
         let below = c.held k hk j e in
         let h = chain tasks sems c j below in
         let short = h.2 in
         let w = walked_meets tasks sems (Is i) c link linked small 17 (suc (length sems)) k hk e h.1 (omega arith) (omega arith) in
-        rw e (sym (is_reaches i j below) ∙ sym (met_found_lem (met_by tasks sems (Is i) j)) ∙ ap (leb 64) (met ∙ sym w))
+        rw e (sym (is_reaches i j below) ∙ sym (met_found_lem (met_by tasks sems (Is i) j)) ∙ ap is_met_lead (met ∙ sym w))
       where
-        met : met_code (met_by tasks sems (Is i) j) ≡ met_code (meets tasks sems (Is i) (suc (length sems)) j)
+        met : to_met (met_by tasks sems (Is i) j) ≡ to_met (meets tasks sems (Is i) (suc (length sems)) j)
         met = unfold met_by in refl
 
-    pub ring_told : closes_ring tasks sems i k ≡ leb 64 (walked 17 link k)
-    ring_told = ring_code (held_by (sem_at sems k).holder) refl
+    -- it closes exactly if the table leads to the task
+    pub ring_met : (e : ℕ) → walked 17 link (ToSem k) ≡ Met e → closes_ring tasks sems i k ≡ true
+    unfolding is_met_lead
+    ring_met e w = ring_code ((sem_at sems k).holder) refl ∙ ap is_met_lead w
+
+    pub ring_free : ((e : ℕ) → walked 17 link (ToSem k) ≡ Met e → ⊥) → closes_ring tasks sems i k ≡ false
+    unfolding is_met_lead
+    ring_free never = ring_code ((sem_at sems k).holder) refl ∙ go (walked 17 link (ToSem k)) never
+      where
+        go : (l : Lead) → ((e : ℕ) → l ≡ Met e → ⊥) → is_met_lead l ≡ false
+        go Nobody h = refl
+        go (ToSem at) h = refl
+        go (Met e) h = absurd (h e refl)

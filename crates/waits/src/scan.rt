@@ -1,15 +1,16 @@
-// The one scan over the tasks, from which the running task, an heir and a standing are read. It follows small numbers
-// through a table over the semaphores.
-ghost use Rattle.std.specs.Prelude.{◌≡◌, ◌<◌, ◌≤◌, take};
+// The one scan over the tasks, from which the running task, an heir and a standing are read. It follows the chains of
+// waits through a table that says where each semaphore leads.
+ghost use Rattle.std.specs.Prelude.{◌≡◌, true, ◌<◌, length};
 ghost use Rattle.waits.specs.Waits.{waits_for, Used};
-ghost use Rattle.waits.specs.Standing.{shown_deadline};
-ghost use Rattle.waits.specs.Scan.{takes, sem_code, holder_leads, walked, followed, led_to};
-ghost use Rattle.waits.specs.Scan.{no_best, is_ahead, as_best, scan_of, met_found};
+ghost use Rattle.waits.specs.Standing.{own_rank, shown_deadline};
+ghost use Rattle.waits.specs.Scan.{takes, holder_leads, Linked, walked, ended, to_sem, led_to, is_ahead, scan_of};
 
-use crate::standing;
-use table::{Found, Holder, Sem, Status, Task};
+use crate::Entries;
+use crate::standing::Rank;
+use table::{Status, Task};
 
-// Which task a chain of waits is followed to: a ready one, that at a position, or one that waits for a semaphore.
+// Which task a chain of waits is followed to: a ready one, that at a position, or one that waits for a semaphore. A
+// closure would be no plainer: what it answers would have to be tied to `takes` at each call.
 #[derive(Clone, Copy)]
 pub enum Goal {
     Ready,
@@ -17,177 +18,156 @@ pub enum Goal {
     WaitsFor(u8),
 }
 
-// The best own standing so far among the tasks whose chain of waits meets the goal, and the task that is met there.
-// No field is narrow, so that the loop carries no gaps.
+// Where a chain leads: to nobody, on to the semaphore at a place, or to the task at a position, which the goal takes.
 #[derive(Clone, Copy)]
-pub struct Best {
-    pub queue: u64,
-    pub deadline: u64,
-    pub position: u64,
-    pub met: u64,
+pub enum Lead {
+    Nobody,
+    ToSem(u8),
+    Met(u8),
 }
 
-// Where a chain leads, in a byte: below 16 the place of a semaphore, from 64 on the position of a task that the goal
-// takes, between them nobody.
-pub const MET: u8 = 64;
-
-pub const NOBODY: u8 = 32;
-
-// No queue is as large as this, so that any task is better.
-const NO_QUEUE: u64 = 256;
+// The best own standing among the tasks whose chain of waits meets the goal, and the position of the task that is met.
+#[derive(Clone, Copy)]
+pub struct Best {
+    pub rank: Rank,
+    pub met: u8,
+}
 
 const FP: u8 = 3;
 
 // The place of the semaphore that is waited for.
-fn waited(status: Status) -> u8
-    ensures { result ≡ sem_code (waits_for status) }
+#[tactic(auto, unfolding(crate::specs::Waits::waits_for))]
+pub fn waited(status: Status) -> Option<u8>
+    ensures { result ≡ waits_for status }
 {
     match status {
-        Status::Idle => NOBODY,
-        Status::Ready => NOBODY,
-        Status::Event => NOBODY,
-        Status::Waits(k) => k,
+        Status::Waits(k) => Some(k),
+        _ => None,
     }
 }
 
 // Whether the goal takes a task that does this at this position.
+#[tactic(auto, unfolding(crate::specs::Scan::takes, crate::specs::Standing::is_ready, crate::specs::Standing::found_and))]
 fn taken(goal: Goal, status: Status, place: u8) -> bool
     ensures { result ≡ takes goal status place }
 {
     match goal {
-        Goal::Ready => standing::doing(status) == standing::READY,
+        Goal::Ready => matches!(status, Status::Ready),
         Goal::Is(at) => place == at,
-        Goal::WaitsFor(k) => waited(status) == k,
+        Goal::WaitsFor(k) => waited(status) == Some(k),
     }
+}
+
+// On to the semaphore that is waited for.
+fn onward(status: Status) -> Lead
+    ensures { result ≡ to_sem (waits_for status) }
+{
+    waited(status).map_or(Lead::Nobody, Lead::ToSem)
 }
 
 // Where a holder leads.
-pub fn led_by(goal: Goal, status: Status, place: u8) -> u8
-    requires { place < 64 }
+#[tactic(auto, unfolding(crate::specs::Scan::holder_leads))]
+pub fn led_by(goal: Goal, status: Status, place: u8) -> Lead
     ensures { result ≡ holder_leads goal status place }
 {
     if taken(goal, status, place) {
-        return MET + place;
+        Lead::Met(place)
+    } else {
+        onward(status)
     }
-    waited(status)
 }
 
 // The table followed from a place on. A chain passes each semaphore once, so that it comes to an end.
-fn walk(link: [u8; 16], from: u8) -> u8
-    requires { 16 ≤ walked 17 link from }
-    ensures { result ≡ walked 17 link from }
+fn walk(link: &[Lead; 16], from: Lead) -> Lead
+    requires { (length link.now ≡ 16) × (ended (walked 17 link.now from) ≡ true) }
+    ensures { result ≡ walked 17 link.now from }
 {
     let mut at = from;
-    while at < 16 {
-        at = link[at as usize];
+    while let Lead::ToSem(k) = at {
+        at = link[k as usize];
     }
     at
 }
 
 // Where the chain of a task leads.
-fn led_to(link: [u8; 16], goal: Goal, status: Status, place: u8) -> u8
-    requires { (place < 64) × (16 ≤ followed link (waits_for status)) }
-    ensures { result ≡ led_to link goal status place }
+#[tactic(auto, unfolding(crate::specs::Scan::led_to))]
+fn led_to(link: &[Lead; 16], goal: Goal, status: Status, place: u8) -> Lead
+    requires { (length link.now ≡ 16) × (ended (walked 17 link.now (to_sem (waits_for status))) ≡ true) }
+    ensures { result ≡ led_to link.now goal status place }
 {
     if taken(goal, status, place) {
-        return MET + place;
-    }
-    match status {
-        Status::Idle => NOBODY,
-        Status::Ready => NOBODY,
-        Status::Event => NOBODY,
-        Status::Waits(k) => walk(link, k),
+        Lead::Met(place)
+    } else {
+        walk(link, onward(status))
     }
 }
 
+#[tactic(auto, unfolding(crate::specs::Standing::shown_deadline))]
 pub fn deadline_shown(t: Task) -> u64
     ensures { result ≡ shown_deadline t }
 {
-    if t.queue == FP {
-        return 0;
-    }
-    t.deadline
+    if t.queue == FP { 0 } else { t.deadline }
 }
 
-// The best so far, before any task.
-fn none_yet() -> Best
-    ensures { result ≡ no_best }
+// The own standing of a task at a position.
+pub fn own(t: Task, position: u8) -> Rank
+    ensures { result ≡ own_rank t position }
 {
-    Best {
-        queue: NO_QUEUE,
-        deadline: 0,
-        position: 0,
-        met: NOBODY as u64,
+    Rank {
+        deadline: deadline_shown(t),
+        queue: t.queue,
+        position,
     }
 }
 
 // Whether a task would stand before the best so far. Tasks come by rising position, so that the earlier one stays where
 // queue and deadline are equal.
-fn ahead(best: Best, t: Task) -> bool
+#[tactic(auto, unfolding(crate::specs::Scan::is_ahead))]
+fn ahead(best: Option<Best>, t: Task) -> bool
     ensures { result ≡ is_ahead best t }
 {
-    let queue = t.queue as u64;
-    (queue < best.queue) | ((queue == best.queue) & (deadline_shown(t) < best.deadline))
+    let Some(best) = best else {
+        return true;
+    };
+    let rank = best.rank;
+    (t.queue < rank.queue) | ((t.queue == rank.queue) & (deadline_shown(t) < rank.deadline))
 }
 
-// The task as the best so far.
-fn as_best(t: Task, position: u64, met: u8) -> Best
-    ensures { result ≡ as_best t position met }
-{
-    Best {
-        queue: t.queue as u64,
-        deadline: deadline_shown(t),
-        position,
-        met: met as u64,
-    }
-}
-
-// The task that is met.
-pub fn met_at(best: Best) -> Found
-    ensures { result ≡ met_found best }
-{
-    if best.met < 64 {
-        return Found::Nothing;
-    }
-    Found::At((best.met - 64) as usize)
-}
-
-// The best own standing among the tasks whose chain of waits meets the goal. A chain is followed only for a task that
-// would stand before the best so far. The table over the semaphores is made here too, since each function that looks at
-// the entries copies them.
-pub fn scan(tasks: [Task; 64], n: usize, sems: [Sem; 16], m: usize, goal: Goal) -> Best
-    requires { Used tasks n sems m }
-    ensures { result ≡ scan_of (take n tasks) (take m sems) goal n }
-{
-    let mut link = [NOBODY; 16];
-    let mut k: usize = 0;
-    while k < m {
-        let entry = sems[k];
-        let holder = entry.holder;
-        match holder {
-            Holder::Free => {
-                link[k] = NOBODY;
-            }
-            Holder::By(place) => {
-                let t = tasks[place as usize];
-                let status = t.status;
-                link[k] = led_by(goal, status, place);
+impl<'a> Entries<'a> {
+    // Where each semaphore leads.
+    fn leads(&self, goal: Goal) -> [Lead; 16]
+        requires { Used self.now.tasks.now self.now.sems.now }
+        ensures long { length result ≡ 16 }
+        ensures leads { Linked self.now.tasks.now self.now.sems.now goal result }
+    {
+        let mut link = [Lead::Nobody; 16];
+        for (k, entry) in self.sems.iter().enumerate() {
+            if let Some(place) = entry.holder {
+                link[k] = led_by(goal, self.tasks[place as usize].status, place);
             }
         }
-        k += 1;
+        link
     }
-    let mut best = none_yet();
-    let mut i: usize = 0;
-    while i < n {
-        let t = tasks[i];
-        if ahead(best, t) {
-            let status = t.status;
-            let met = led_to(link, goal, status, i as u8);
-            if met >= MET {
-                best = as_best(t, i as u64, met);
+
+    // The best own standing among the tasks whose chain of waits meets the goal. A chain is followed only for a task
+    // that would stand before the best so far.
+    pub fn scan(&self, goal: Goal) -> Option<Best>
+        requires { Used self.now.tasks.now self.now.sems.now }
+        ensures { result ≡ scan_of self.now.tasks.now self.now.sems.now goal }
+    {
+        let link = self.leads(goal);
+        let mut best: Option<Best> = None;
+        for (i, t) in self.tasks.iter().enumerate() {
+            if !ahead(best, *t) {
+                continue;
+            }
+            if let Lead::Met(met) = led_to(&link, goal, t.status, i as u8) {
+                best = Some(Best {
+                    rank: own(*t, i as u8),
+                    met,
+                });
             }
         }
-        i += 1;
+        best
     }
-    best
 }

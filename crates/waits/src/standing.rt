@@ -1,15 +1,12 @@
 // Standing and the running task. Nothing is kept: both are worked out from who waits for what.
-ghost use Rattle.std.specs.Prelude.{◌≡◌, ◌<◌, ◌≤◌, length, get_or, take};
-ghost use Rattle.table.specs.Entries.{blank_task};
+ghost use Rattle.std.specs.Prelude.{◌≡◌, ◌<◌, length};
 ghost use Rattle.waits.specs.Waits.{Used};
-ghost use Rattle.waits.specs.Doing.{doing_of};
-ghost use Rattle.waits.specs.Standing.{holds_it, still_holds, own_rank, standing_of, running_of, heir_of};
-ghost use Rattle.waits.specs.Standing.{closes_ring};
-ghost use Rattle.waits.specs.Scan.{alone_of};
+ghost use Rattle.waits.specs.Standing.{holds_it, still_holds, standing_of, running_of, heir_of, closes_ring};
+ghost use Rattle.waits.specs.Scan.{on_holder, waited_on};
 
-use crate::scan;
-use crate::scan::Goal;
-use table::{Found, Holder, Sem, Status, Task};
+use crate::scan::{Goal, Lead};
+use crate::{Entries, scan};
+use table::{Sem, Task};
 
 // A standing: queue, deadline (0 in FP) and position.
 #[derive(Clone, Copy)]
@@ -19,159 +16,87 @@ pub struct Rank {
     pub position: u8,
 }
 
-// What a task is doing, as a number.
-pub const IDLE: u8 = 0;
-
-pub const READY: u8 = 1;
-
-pub const EVENT: u8 = 2;
-
-pub const WAITS: u8 = 3;
-
-pub fn doing(status: Status) -> u8
-    ensures { result ≡ doing_of status }
-{
-    match status {
-        Status::Idle => IDLE,
-        Status::Ready => READY,
-        Status::Event => EVENT,
-        Status::Waits(_) => WAITS,
-    }
-}
-
 // Whether the task at a position holds the semaphore.
+#[tactic(auto, unfolding(crate::specs::Standing::holds_it, crate::specs::Standing::found_and))]
 pub fn holds_it(i: usize, entry: Sem) -> bool
     ensures { result ≡ holds_it i entry }
 {
-    let holder = entry.holder;
-    let Holder::By(at) = holder else {
-        return false;
-    };
-    at as usize == i
+    entry.holder.is_some_and(|at| at as usize == i)
 }
 
-// Whether the task at a position holds one of the first m semaphores.
-pub fn holds(sems: [Sem; 16], m: usize, i: usize) -> bool
-    requires { (m ≤ 16) × (m ≤ length sems) }
-    ensures { result ≡ still_holds (take m sems) i }
-{
-    let mut k: usize = 0;
-    while k < m {
-        if holds_it(i, sems[k]) {
-            return true;
+impl<'a> Entries<'a> {
+    // Whether the task at a position holds a semaphore.
+    #[tactic(auto, unfolding(crate::specs::Standing::still_holds))]
+    pub fn holds(&self, i: usize) -> bool
+        ensures { result ≡ still_holds self.now.sems.now i }
+    {
+        self.sems.iter().any(|entry| holds_it(i, *entry))
+    }
+
+    // The ready task of best standing.
+    pub fn running(&self) -> Option<usize>
+        requires { Used self.now.tasks.now self.now.sems.now }
+        ensures { result ≡ running_of self.now.tasks.now self.now.sems.now }
+    {
+        self.scan(Goal::Ready).map(|best| best.met as usize)
+    }
+
+    // The waiter of best standing for the semaphore at a place.
+    pub fn heir(&self, k: usize) -> Option<usize>
+        requires { Used self.now.tasks.now self.now.sems.now × (k < length self.now.sems.now) }
+        ensures { result ≡ heir_of self.now.tasks.now self.now.sems.now k }
+    {
+        self.scan(Goal::WaitsFor(k as u8))
+            .map(|best| best.met as usize)
+    }
+
+    // Whether an acquire of the semaphore at k by the task at i would close a ring of waits: the chain that starts at
+    // the semaphore's holder comes to that task.
+    pub fn closes_ring(&self, i: usize, k: usize) -> bool
+        requires { Used self.now.tasks.now self.now.sems.now × (i < length self.now.tasks.now) × (k < length self.now.sems.now) }
+        ensures { result ≡ closes_ring self.now.tasks.now self.now.sems.now i k }
+    {
+        let goal = Goal::Is(i as u8);
+        let mut at = Lead::ToSem(k as u8);
+        while let Lead::ToSem(k) = at {
+            at = match self.sems[k as usize].holder {
+                None => Lead::Nobody,
+                Some(place) => scan::led_by(goal, self.tasks[place as usize].status, place),
+            };
         }
-        k += 1;
+        matches!(at, Lead::Met(_))
     }
-    false
-}
 
-// The ready task of best standing.
-pub fn running(tasks: [Task; 64], n: usize, sems: [Sem; 16], m: usize) -> Found
-    requires { Used tasks n sems m }
-    ensures { result ≡ running_of (take n tasks) (take m sems) }
-{
-    scan::met_at(scan::scan(tasks, n, sems, m, Goal::Ready))
-}
-
-// The waiter of best standing for the semaphore at a place.
-pub fn heir(tasks: [Task; 64], n: usize, sems: [Sem; 16], m: usize, k: usize) -> Found
-    requires { Used tasks n sems m × (k < m) }
-    ensures { result ≡ heir_of (take n tasks) (take m sems) k }
-{
-    scan::met_at(scan::scan(tasks, n, sems, m, Goal::WaitsFor(k as u8)))
-}
-
-// Whether an acquire of the semaphore at k by the task at i would close a ring of waits: the chain that starts at the
-// semaphore's holder comes to that task.
-pub fn closes_ring(
-    tasks: [Task; 64],
-    n: usize,
-    sems: [Sem; 16],
-    m: usize,
-    i: usize,
-    k: usize,
-) -> bool
-    requires { Used tasks n sems m × (i < n) × (k < m) }
-    ensures { result ≡ closes_ring (take n tasks) (take m sems) i k }
-{
-    let goal = Goal::Is(i as u8);
-    let mut at = k as u8;
-    while at < 16 {
-        let entry = sems[at as usize];
-        let holder = entry.holder;
-        match holder {
-            Holder::Free => {
-                at = scan::NOBODY;
-            }
-            Holder::By(place) => {
-                let t = tasks[place as usize];
-                let status = t.status;
-                at = scan::led_by(goal, status, place);
-            }
-        }
-    }
-    at >= scan::MET
-}
-
-// The own standing of a task at a position.
-fn own(t: Task, position: u8) -> Rank
-    ensures { result ≡ own_rank t position }
-{
-    Rank {
-        deadline: scan::deadline_shown(t),
-        queue: t.queue,
-        position,
-    }
-}
-
-// The own standing of the task at a position. It looks at the entries for its caller, who then need not copy them.
-fn own_at(tasks: [Task; 64], at: usize) -> Rank
-    requires { (at < 64) × (at < length tasks) }
-    ensures { result ≡ own_rank (get_or tasks at blank_task) at }
-{
-    own(tasks[at], at as u8)
-}
-
-// A task's own standing, and whether somebody waits for a semaphore that it holds.
-#[derive(Clone, Copy)]
-struct Alone {
-    rank: Rank,
-    waited: bool,
-}
-
-// Both come from one function: each function that looks at the entries copies them.
-fn stands_alone(tasks: [Task; 64], n: usize, sems: [Sem; 16], m: usize, i: usize) -> Alone
-    requires { Used tasks n sems m × (i < n) }
-    ensures { result ≡ alone_of (take n tasks) (take m sems) i }
-{
-    let rank = own(tasks[i], i as u8);
-    let mut j: usize = 0;
-    while j < n {
-        let t = tasks[j];
-        let status = t.status;
-        j += 1;
-        let Status::Waits(k) = status else {
-            continue;
+    // Whether a task waits for a semaphore that the task at a position holds.
+    fn waits_on(&self, t: Task, i: usize) -> bool
+        ensures { result ≡ on_holder self.now.sems.now i t }
+    {
+        let Some(k) = scan::waited(t.status) else {
+            return false;
         };
-        if holds_it(i, sems[k as usize]) {
-            return Alone { rank, waited: true };
-        }
+        let Some(entry) = self.sems.get(k as usize) else {
+            return false;
+        };
+        holds_it(i, *entry)
     }
-    Alone {
-        rank,
-        waited: false,
-    }
-}
 
-// The standing of the task at a position: the best of its own and those of all that wait for it.
-pub fn standing(tasks: [Task; 64], n: usize, sems: [Sem; 16], m: usize, i: usize) -> Rank
-    requires { Used tasks n sems m × (i < n) }
-    ensures { result ≡ standing_of (take n tasks) (take m sems) i }
-{
-    let first = stands_alone(tasks, n, sems, m, i);
-    if !first.waited {
-        return first.rank;
+    // Whether somebody does.
+    #[tactic(auto, unfolding(crate::specs::Scan::waited_on))]
+    fn waited_on(&self, i: usize) -> bool
+        ensures { result ≡ waited_on self.now.tasks.now self.now.sems.now i }
+    {
+        self.tasks.iter().any(|t| self.waits_on(*t, i))
     }
-    let best = scan::scan(tasks, n, sems, m, Goal::Is(i as u8));
-    own_at(tasks, best.position as usize)
+
+    // The standing of the task at a position: the best of its own and those of all that wait for it.
+    pub fn standing(&self, i: usize) -> Rank
+        requires { Used self.now.tasks.now self.now.sems.now × (i < length self.now.tasks.now) }
+        ensures { result ≡ standing_of self.now.tasks.now self.now.sems.now i }
+    {
+        let own = scan::own(self.tasks[i], i as u8);
+        if !self.waited_on(i) {
+            return own;
+        }
+        self.scan(Goal::Is(i as u8)).map_or(own, |best| best.rank)
+    }
 }

@@ -1,38 +1,34 @@
 -- `records::decode` meets its contract: each arm is one kind.
-use mathlib.Core.Path.{sym, ◌∙◌}
+use mathlib.Core.Path.{sym, ap, ◌∙◌}
 use native.Mathlib.Omega.{arith}
-use lib.ListN.{get_or}
-use borrow.Author.Tests.{eq-eqb, ne_eqb}
-use Rattle.records.specs.Records.{decoded}
-use Rattle.records.proofs.RecordLaws.{not_erased}
+use Rattle.std.specs.Prelude.{Ok, Err}
+use Rattle.std.proofs.lemmas.Result.{err_from_is_err_and}
+use Rattle.records.specs.declared.Kind.{Kind}
+use Rattle.records.specs.declared.Kind.TheVariants.{Task, Board, Sem, Erased}
+use Rattle.records.proofs.RecordLaws.{decoded_by}
 use Rattle.records.proofs.decode.Goals as goal
 
-pub returns-in-1 : goal.returns-in-1
-unfolding decoded
-returns-in-1 c =
-    let r = c.args.part.now in
-    c.decode_task.ensures ∙ sym (simp (not_erased r (omega arith) (omega arith), eq-eqb (get_or r 0 0) 1 (omega arith)))
+pub returns-in-Task : goal.returns-in-Task
+returns-in-Task c =
+    c.decode_task.ensures
+    ∙ decoded_by c.args.part.now (Ok Task) (omega arith) (ap (λ (k : Kind). Ok k) (sym c.in-Task.is) ∙ c.in_ok-try_from.ensures {u = tt})
 
-pub returns-in-2 : goal.returns-in-2
-unfolding decoded
-returns-in-2 c =
-    let r = c.args.part.now in
-    c.decode_board.ensures ∙ sym (simp (not_erased r (omega arith) (omega arith), eq-eqb (get_or r 0 0) 2 (omega arith), ne_eqb (get_or r 0 0) 1 (omega arith)))
+pub returns-in-Board : goal.returns-in-Board
+returns-in-Board c =
+    c.decode_board.ensures
+    ∙ decoded_by c.args.part.now (Ok Board) (omega arith) (ap (λ (k : Kind). Ok k) (sym c.in-Board.is) ∙ c.in_ok-try_from.ensures {u = tt})
 
-pub returns-in-3 : goal.returns-in-3
-unfolding decoded
-returns-in-3 c =
-    let r = c.args.part.now in
-    c.decode_sem.ensures ∙ sym (simp (not_erased r (omega arith) (omega arith), eq-eqb (get_or r 0 0) 3 (omega arith), ne_eqb (get_or r 0 0) 1 (omega arith), ne_eqb (get_or r 0 0) 2 (omega arith)))
+pub returns-in-Sem : goal.returns-in-Sem
+returns-in-Sem c =
+    c.decode_sem.ensures
+    ∙ decoded_by c.args.part.now (Ok Sem) (omega arith) (ap (λ (k : Kind). Ok k) (sym c.in-Sem.is) ∙ c.in_ok-try_from.ensures {u = tt})
 
-pub returns-in-255 : goal.returns-in-255
-unfolding decoded
-returns-in-255 c =
-    let r = c.args.part.now in
-    c.decode_erased.ensures ∙ sym (simp (ne_eqb (get_or r 0 0) 1 (omega arith), ne_eqb (get_or r 0 0) 2 (omega arith), ne_eqb (get_or r 0 0) 3 (omega arith)))
+pub returns-in-Erased : goal.returns-in-Erased
+returns-in-Erased c =
+    c.decode_erased.ensures
+    ∙ decoded_by c.args.part.now (Ok Erased) (omega arith) (ap (λ (k : Kind). Ok k) (sym c.in-Erased.is) ∙ c.in_ok-try_from.ensures {u = tt})
 
-pub returns-in_default : goal.returns-in_default
-unfolding decoded
-returns-in_default c =
-    let r = c.args.part.now in
-    sym (simp (not_erased r (omega arith) c.in_default.in_default-own.rest.1, ne_eqb (get_or r 0 0) 1 c.in_default.in_default-own.rest.0.0.0.1, ne_eqb (get_or r 0 0) 2 c.in_default.in_default-own.rest.0.0.1, ne_eqb (get_or r 0 0) 3 c.in_default.in_default-own.rest.0.1))
+pub returns-in_err-try_from : goal.returns-in_err-try_from
+returns-in_err-try_from c =
+    let p = err_from_is_err_and c.from_residual.result c.from_residual.ensures.1 in
+    rw (p.1, p.2) (decoded_by c.args.part.now (Err c.in_err-try_from.field-0.0) (omega arith) (c.in_err-try_from.ensures {u = tt}))

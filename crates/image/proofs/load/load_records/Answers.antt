@@ -1,73 +1,66 @@
--- `image::load::load_records` meets its contract: what is left of the image, from here, gives the whole answer.
-use Prim.Native.Nat.{ℕ, ◌+◌, ◌-◌, ◌%◌, ◌<◌}
-use mathlib.Core.List.{List}
-use mathlib.Core.Path.{◌≡◌, sym, ap, ◌∙◌}
+-- `image::load::load_records` meets its contract: what is left of the records, from here, gives the whole answer.
+use Prim.Native.Nat.{ℕ, ◌<◌}
+use mathlib.Core.List.{List, []}
+use mathlib.Core.Path.{◌≡◌, refl, sym, ap, ◌∙◌}
 use native.Mathlib.Omega.{arith}
-use lib.ListN.{length, take, drop, length-drop}
+use lib.Dec.{eqb}
+use lib.ListN.{length, get_or, take}
 use lib.Seq.{length-take-le}
+use borrow.Author.Tests.{eqb-false}
+use Rattle.std.specs.Prelude.{Ok}
+use Rattle.table.proofs.RefusalLaws.{number_not_zero}
+use Rattle.records.specs.Records.{decoded}
 use Rattle.executive.specs.Calls.{with_tasks, with_sems}
 use Rattle.executive.proofs.TableLaws.{with_counts, with_board, grow_task, grow_sem}
-use Rattle.executive.specs.declared.state.State.{State}
-use Rattle.records.specs.declared.Decoded.{Decoded}
-use Rattle.records.specs.Records.{decoded}
+use Rattle.records.specs.declared.Record.{Record}
+use Rattle.image.specs.Fronts.{front_after, front_refusal}
 use Rattle.image.specs.declared.load.Front.{Front}
-use Rattle.image.specs.Loading.{taken}
-use lib.Dec.{eqb}
+use Rattle.executive.specs.declared.state.State.{State}
 use Rattle.table.specs.Sums.{any}
-use Rattle.image.specs.Fronts.{front_refusal}
-use Rattle.image.proofs.LoadLaws.{Come, Turn, come_start, come_given, come_front, come_refused, come_same, come_task, come_sem, come_board, come_end, task_room, sem_room}
+use Rattle.image.proofs.LoadLaws.{Come, Turn, come_start, come_at, come_given, come_front, come_refused, come_erased, come_task, come_sem, come_board, come_end, task_room, sem_room}
 use Rattle.image.proofs.load.load_records.Goals as goal
+use Rattle.image.proofs.load.load_records.Goals.{in-Erased, in-Task, in-Board, in-Sem}
 
 -- what is known of a record once it is judged
-turn : {image : List ℕ} {state : State} {given : List ℕ} {front : Front} {at : ℕ} {d : Decoded} {number : ℕ}
-    → Come image state given front at
-    → length image % 32 ≡ 0
-    → at < length image
-    → d ≡ decoded (take (at + 32 - at) (drop at image))
-    → number ≡ front_refusal front (λ k. any (λ x. eqb x k) (take state.n given)) d
-    → Turn image state given front at d number
-turn come whole inside says judged = record { come = come; whole = whole; inside = inside; says = says; judged = judged }
+turn : {records : List (List ℕ)} {state : State} {given : List ℕ} {front : Front} {place number : ℕ} → Come records state given front place
+    → place < length records → number ≡ front_refusal front (λ k. any (λ x. eqb x k) (take state.n given)) (decoded (get_or records place []))
+    → Turn records state given front place number
+turn come more judged = record { come = come; more = more; judged = judged }
 
 -- there is room for a task, and for a semaphore
-room : (c : goal.In-TaskRecord) → c.loop-at.state.n < 64
-room c = task_room (turn c.loop-at.invariant c.requires c.loop-at-test.true c.decode-record.ensures c.refusal-number.ensures) c.if-number-ne-DONE.false c.in-TaskRecord.task c.in-TaskRecord.is
+room : (c : goal.In-Task) → c.loop-place.state.n < 64
+room c =
+    task_room (turn c.loop-place.invariant c.loop-place-test.true c.in-Ok.ensures.why) refl c.in-Task.task
+    (c.in-Ok.ensures.what ∙ ap (λ (d : Record). Ok d) c.in-Task.is)
 
-sem_place_lem : (c : goal.In-SemRecord) → c.loop-at.state.m < 16
-sem_place_lem c = sem_room (turn c.loop-at.invariant c.requires c.loop-at-test.true c.decode-record.ensures c.refusal-number.ensures) c.if-number-ne-DONE.false c.in-SemRecord.sem c.in-SemRecord.is
+sem_place : (c : goal.In-Sem) → c.loop-place.state.m < 16
+sem_place c =
+    sem_room (turn c.loop-place.invariant c.loop-place-test.true c.in-Ok.ensures.why) refl c.in-Sem.sem
+    (c.in-Ok.ensures.what ∙ ap (λ (d : Record). Ok d) c.in-Sem.is)
 
-pub loop-at-init : goal.loop-at-init
+pub loop-place-init : goal.loop-place-init
 unfolding with_board
-loop-at-init c =
-    come_start c.args.image.now c.empty-state.result c.built_in-state.result c.start-front.result c.empty-state.ensures c.built_in-state.ensures
+loop-place-init c =
+    come_start c.args.records.now c.empty-state.result c.built_in-state.result c.start-front.result c.empty-state.ensures c.built_in-state.ensures
     c.start-front.ensures
-
-pub decode-record-requires : goal.decode-record-requires
-decode-record-requires c =
-    let image = c.args.image.now in
-    let at = c.loop-at.at in
-    length-take-le (at + 32 - at) (drop at image) (rw (length-drop at image) (omega arith)) ∙ omega arith
 
 pub slice_bounds-given-end : goal.slice_bounds-given-end
 slice_bounds-given-end c =
-    let g = come_given c.loop-at.invariant in omega (arith, g.0, g.1)
+    let g = come_given c.loop-place.invariant in omega (arith, g.0, g.1)
 
-pub slice_bounds-refusal-end : goal.slice_bounds-refusal-end
-slice_bounds-refusal-end c =
-    let g = come_given c.loop-at.invariant in
-    sym (length-take-le c.loop-at.state.n c.loop-at.given (omega (arith, g.0, g.1)))
+pub slice_bounds-passed-end : goal.slice_bounds-passed-end
+slice_bounds-passed-end c =
+    let g = come_given c.loop-place.invariant in
+    sym (length-take-le c.loop-place.state.n c.loop-place.given (omega (arith, g.0, g.1)))
 
-pub returns-then-number-ne-DONE : goal.returns-then-number-ne-DONE
-returns-then-number-ne-DONE c =
-    c.refused.ensures ∙ come_refused (turn c.loop-at.invariant c.requires c.loop-at-test.true c.decode-record.ensures c.refusal-number.ensures) c.if-number-ne-DONE.true
+pub returns-in-Err : goal.returns-in-Err
+returns-in-Err c =
+    c.refused.ensures
+    ∙ come_refused (turn c.loop-place.invariant c.loop-place-test.true c.in-Err.ensures.why)
+    (eqb-false _ 0 (number_not_zero c.in-Err.refusal))
 
-pub after-front-requires : goal.after-front-requires
-after-front-requires c =
-    come_front c.loop-at.invariant
-
-pub loop-at-preserved-in-Erased : goal.loop-at-preserved-in-Erased
-unfolding taken
-loop-at-preserved-in-Erased c =
-    come_same (turn c.loop-at.invariant c.requires c.loop-at-test.true c.decode-record.ensures c.refusal-number.ensures) c.if-number-ne-DONE.false (λ t. ap (taken t) c.in-Erased.is) c.after-front.result c.after-front.ensures
+pub take-requires : goal.take-requires
+take-requires c = come_front c.loop-place.invariant
 
 pub offset_bounds-state-n : goal.offset_bounds-state-n
 offset_bounds-state-n c = record { fits = omega (arith, room c) }
@@ -84,35 +77,27 @@ offset_bounds-given-n c = record { fits = omega (arith, room c) }
 pub bounds-given-n : goal.bounds-given-n
 bounds-given-n c = room c
 
-pub loop-at-preserved-in-TaskRecord : goal.loop-at-preserved-in-TaskRecord
-unfolding grow_task with_counts with_tasks
-loop-at-preserved-in-TaskRecord c =
-    come_task (turn c.loop-at.invariant c.requires c.loop-at-test.true c.decode-record.ensures c.refusal-number.ensures) c.if-number-ne-DONE.false c.in-TaskRecord.task c.in-TaskRecord.is c.after-front.result c.after-front.ensures
-
-pub loop-at-preserved-in-BoardRecord : goal.loop-at-preserved-in-BoardRecord
-unfolding with_board
-loop-at-preserved-in-BoardRecord c =
-    come_board (turn c.loop-at.invariant c.requires c.loop-at-test.true c.decode-record.ensures c.refusal-number.ensures) c.if-number-ne-DONE.false c.in-BoardRecord.board c.in-BoardRecord.is c.after-front.result c.after-front.ensures
-
 pub offset_bounds-state-m : goal.offset_bounds-state-m
-offset_bounds-state-m c = record { fits = omega (arith, sem_place_lem c) }
+offset_bounds-state-m c = record { fits = omega (arith, sem_place c) }
 
 pub bounds-state-m : goal.bounds-state-m
-bounds-state-m c = sem_place_lem c
+bounds-state-m c = sem_place c
 
-pub overflow_add-state-in-SemRecord : goal.overflow_add-state-in-SemRecord
-overflow_add-state-in-SemRecord c = record { fits = omega (arith, sem_place_lem c) }
+pub overflow_add-state-in-Sem : goal.overflow_add-state-in-Sem
+overflow_add-state-in-Sem c = record { fits = omega (arith, sem_place c) }
 
-pub loop-at-preserved-in-SemRecord : goal.loop-at-preserved-in-SemRecord
-unfolding grow_sem with_counts with_sems
-loop-at-preserved-in-SemRecord c =
-    come_sem (turn c.loop-at.invariant c.requires c.loop-at-test.true c.decode-record.ensures c.refusal-number.ensures) c.if-number-ne-DONE.false c.in-SemRecord.sem c.in-SemRecord.is c.after-front.result c.after-front.ensures
-
-pub loop-at-preserved : goal.loop-at-preserved
-unfolding taken
-loop-at-preserved c =
-    come_same (turn c.loop-at.invariant c.requires c.loop-at-test.true c.decode-record.ensures c.refusal-number.ensures) c.if-number-ne-DONE.false (λ t. ap (taken t) c.in-Refused.is) c.after-front.result c.after-front.ensures
+pub loop-place-preserved : goal.loop-place-preserved
+unfolding grow_task grow_sem with_counts with_tasks with_sems with_board
+loop-place-preserved c =
+    let t = turn c.loop-place.invariant c.loop-place-test.true c.in-Ok.ensures.why in
+    let says : (d : Record) → c.in-Ok.said ≡ d → decoded (get_or c.args.records.now c.loop-place.place []) ≡ Ok d = λ d e. c.in-Ok.ensures.what ∙ ap (λ (d : Record). Ok d) e in
+    let front = c.take.ensures ∙ ap (front_after c.loop-place.front) (sym c.in-Ok.ensures.what) in
+    elim c.match-said.branch [
+      | in-Erased w ↦ come_at w.state-is w.given-is (come_erased t refl c.take.new.self front (says _ w.in-Erased.is))
+      | in-Task w ↦ come_at w.state-is w.given-is (come_task t refl c.take.new.self front w.in-Task.task (says _ w.in-Task.is))
+      | in-Board w ↦ come_at w.state-is w.given-is (come_board t refl c.take.new.self front w.in-Board.board (says _ w.in-Board.is))
+      | in-Sem w ↦ come_at w.state-is w.given-is (come_sem t refl c.take.new.self front w.in-Sem.sem (says _ w.in-Sem.is))
+    ]
 
 pub returns : goal.returns
-returns c =
-    c.finished.ensures ∙ come_end c.loop-at.invariant c.loop-at-test.false
+returns c = c.finished.ensures ∙ come_end c.loop-place.invariant (omega arith)

@@ -1,12 +1,8 @@
-use Prim.Native.Nat.{◌*◌, ◌-◌, ◌≤◌}
+use Prim.Native.Nat.{◌*◌, ◌≤◌}
 use mathlib.Core.Path.{◌≡◌}
-use lib.ListN.{length}
-use Rattle.judging.specs.Columns.{at}
-use Rattle.judging.specs.Demands.{sum_to, counted}
+use lib.ListN.{take}
+use Rattle.judging.specs.Search.{demand_by}
 use Rattle.judging.proofs.search.demand.Given as goal
 
-abbrev pub invariant-loop-i : goal.invariant-loop-i
-invariant-loop-i l = (l.i ≤ length l.queues) × (l.sum ≡ sum_to l.i (λ j. at l.loads j * counted (at l.queues j) l.t (at l.periods j) l.own)) × (l.sum ≤ l.i * 100000000000000000)
-
-abbrev pub decreases-loop-i : goal.decreases-loop-i
-decreases-loop-i l = length l.queues - l.i
+abbrev pub invariant-loop-row : goal.invariant-loop-row
+invariant-loop-row l = (l.sum ≡ demand_by l.own (take l.row-index l.rows) l.t) × (l.sum ≤ l.row-index * 100000000000000000)

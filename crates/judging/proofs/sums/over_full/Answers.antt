@@ -1,74 +1,50 @@
 -- `judging::sums::over_full` meets its contract: the loop has the sum times h; the sum of fractions is above 1 exactly if that is above h.
-use Prim.Native.Nat.{◌+◌, ◌*◌, ◌/◌, ◌≤◌}
+use Prim.Native.Nat.{ℕ, ◌+◌, ◌≤◌}
 use mathlib.Core.Path.{◌≡◌, sym, ap, ◌∙◌}
-use native.Mathlib.Nat.{mul-le-mul}
+use mathlib.Core.List.{List}
 use native.Mathlib.Omega.{arith}
 use borrow.Author.Tests.{lt-ltb, le-ltb}
+use lib.Dec.{ltb}
 use lib.ListN.{length}
-use Rattle.judging.specs.Columns.{at, columns}
-use Rattle.judging.proofs.FractionLaws.{scaled, scaled_start, scaled_in, scaled_out, scaled_mono, over_full_lem, part_small}
-use Rattle.judging.proofs.sums.over_full.Goals.{then-queues-i+else-h-sum, else-queues-i}
+use Rattle.judging.specs.declared.Row.{Row}
+use Rattle.judging.specs.Periods.{over_full}
+use Rattle.judging.specs.Ranges.{InRange, Common}
+use Rattle.judging.proofs.FractionLaws.{scaled, scaled_start, scaled_in, scaled_out, scaled_mono, over_full_lem}
+use Rattle.judging.proofs.sums.over_full.Goals.{then-row-last+else-h-sum, else-row-last}
 use Rattle.judging.proofs.sums.over_full.Goals as goal
 
--- a load times its part of h
-term : (c : goal.After-shared_slice_known-then-queues-i-2-1)
-    → at c.args.loads.now c.loop-i.i * (c.args.h / at c.args.periods.now c.loop-i.i) ≤ 1000000000 * 1000000000
-term c =
-    let a = c.args in
-    let p = c.requires in
-    let i = c.loop-i.i in
-    let l = c.loop-i-test.true in
-    mul-le-mul (p.0.loads i l) (part_small a.h (at a.periods.now i) p.1.most (p.0.periods.least i l))
+-- the test, of the whole sum
+full : (rows : List Row) (last h : ℕ) → InRange rows → Common rows last h → over_full rows last ≡ ltb h (scaled rows last h (length rows))
+full rows last h r c = over_full_lem rows last h c.positive (λ j k. omega (arith, (r.each j k).period_least)) c.multiple
 
-pub loop-i-init : goal.loop-i-init
-loop-i-init c = (omega arith, scaled_start _ _ _, omega arith)
+pub loop-row-init : goal.loop-row-init
+loop-row-init c = (scaled_start _ _ _, omega arith)
 
--- what is answered
 pub returns-then-h-sum : goal.returns-then-h-sum
 returns-then-h-sum c =
     let a = c.args in
-    let g = columns a.queues.now a.periods.now a.loads.now in
-    let p = c.requires in
-    let i = c.loop-i.i in
-    let l = c.loop-i-test.true in
-    let n = length a.queues.now in
-    let more = scaled_in g a.last a.h i c.if-queues-i.true in
-    let far : scaled g a.last a.h (i + 1)
-    ≤ scaled g a.last a.h n =
-    scaled_mono g a.last a.h (i + 1) n (omega arith)
-    in
-    sym
-    (over_full_lem g a.last a.h p.1.positive (λ j k. omega (arith, p.0.periods.least j k)) p.1.multiple
-    ∙ lt-ltb a.h (scaled g a.last a.h n) (omega (arith, more)))
+    let g = a.rows.now in
+    let i = c.loop-row.row-index in
+    let more = scaled_in g a.last a.h i c.if-row-last.true in
+    let far : scaled g a.last a.h (i + 1) ≤ scaled g a.last a.h (length g) = scaled_mono g a.last a.h (i + 1) (length g) (omega arith) in
+    sym (full g a.last a.h c.requires.0 c.requires.1 ∙ lt-ltb a.h (scaled g a.last a.h (length g)) (omega (arith, more)))
+
+pub loop-row-preserved : goal.loop-row-preserved
+loop-row-preserved c =
+    let a = c.args in
+    let i = c.loop-row.row-index in
+    let inn = scaled_in a.rows.now a.last a.h i in
+    let out = scaled_out a.rows.now a.last a.h i in
+    elim c.if-row-last.branch [
+      | then-row-last+else-h-sum w ↦ omega (arith, inn w.if-row-last.true)
+      | else-row-last w ↦ omega (arith, out w.if-row-last.false)
+    ]
 
 pub returns : goal.returns
 returns c =
     let a = c.args in
-    let g = columns a.queues.now a.periods.now a.loads.now in
-    let p = c.requires in
-    let e : c.loop-i.i ≡ length a.queues.now = omega arith in
-    let s = ap (scaled g a.last a.h) e in
+    let g = a.rows.now in
+    let e : c.loop-row.row-index ≡ length g = omega arith in
     sym
-    (over_full_lem g a.last a.h p.1.positive (λ j k. omega (arith, p.0.periods.least j k)) p.1.multiple
-    ∙ le-ltb a.h (scaled g a.last a.h (length a.queues.now)) (omega (arith, s)))
-
-pub loop-i-preserved : goal.loop-i-preserved
-loop-i-preserved c =
-    let a = c.args in
-    let g = columns a.queues.now a.periods.now a.loads.now in
-    let i = c.loop-i.i in
-    let inn = scaled_in g a.last a.h i in
-    let out = scaled_out g a.last a.h i in
-    elim c.if-queues-i.branch [
-      | then-queues-i+else-h-sum w ↦ omega (arith, inn w.if-queues-i.true)
-      | else-queues-i w ↦ omega (arith, out w.if-queues-i.false)
-    ]
-
-pub nonzero_div-sum : goal.nonzero_div-sum
-nonzero_div-sum c = omega (arith, c.requires.0.periods.least c.loop-i.i c.loop-i-test.true)
-
-pub overflow_mul-sum : goal.overflow_mul-sum
-overflow_mul-sum c = omega (arith, term c)
-
-pub overflow_add-sum : goal.overflow_add-sum
-overflow_add-sum c = omega (arith, term c)
+    (full g a.last a.h c.requires.0 c.requires.1
+    ∙ le-ltb a.h (scaled g a.last a.h (length g)) (omega (arith, ap (scaled g a.last a.h) e)))

@@ -9,17 +9,10 @@ use Rattle.linux.proofs.write.put_record.Goals as goal
 
 pub returns : goal.returns
 returns c =
-    let period = c in
-    let deadline = period in
-    let runtime = deadline in
-    let policy = runtime in
-    let size = policy in
-    let filled = size in
-    let start = filled in
-    let t = start.args.task in
-    let zeros : filled.fill.new.part ≡ replicate 48 0 = filled.fill.ensures ∙ ap (λ (n : ℕ). replicate n 0) start.requires in
-    let sized = size.put_u32.ensures ∙ ap (λ (l : List ℕ). put_at 4 l 0 48) zeros in
-    let ruled = policy.put_u32-2.ensures ∙ ap (λ (l : List ℕ). put_at 4 l 4 6) sized in
-    let timed = runtime.put_u64.ensures ∙ ap (λ (l : List ℕ). put_at 8 l 24 (t.cost * 10)) ruled in
-    let due = deadline.put_u64-2.ensures ∙ ap (λ (l : List ℕ). put_at 8 l 32 (t.period * 10)) timed in
-    period.put_u64-3.ensures ∙ (ap (λ (l : List ℕ). put_at 8 l 40 (t.period * 10)) due ∙ attr_put t)
+    let t = c.args.task in
+    let zeros : c.fill.new.part ≡ replicate 48 0 = c.fill.ensures ∙ ap (λ (n : ℕ). replicate n 0) c.requires in
+    let sized = c.put.ensures ∙ ap (λ (l : List ℕ). put_at 4 l 0 48) zeros in
+    let ruled = c.put-2.ensures ∙ ap (λ (l : List ℕ). put_at 4 l 4 6) sized in
+    let timed = c.put-3.ensures ∙ ap (λ (l : List ℕ). put_at 8 l 24 (t.cost * 10)) ruled in
+    let due = c.put-4.ensures ∙ ap (λ (l : List ℕ). put_at 8 l 32 (t.period * 10)) timed in
+    c.put-5.ensures ∙ (ap (λ (l : List ℕ). put_at 8 l 40 (t.period * 10)) due ∙ attr_put t)

@@ -7,42 +7,42 @@ use Rattle.rack.proofs.play.play_one.Goals as goal
 pub returns-in-1 : goal.returns-in-1
 returns-in-1 c =
     let a = c.args in
-    c.release.ensures
-    ∙ called_release a.state a.script.now a.at c.u16_at-number.result c.u64_at.result c.in-1.is c.u16_at-number.ensures c.u64_at.ensures
+    c.release-moved.ensures
+    ∙ called_release a.state a.script.now a.at c.read-number.result c.read.result c.in-1.is c.read-number.ensures c.read.ensures
 
 pub returns-in-2 : goal.returns-in-2
 returns-in-2 c =
     let a = c.args in
-    c.signal.ensures
-    ∙ called_signal a.state a.script.now a.at c.u16_at-number.result c.in-2.is c.u16_at-number.ensures
+    c.signal-moved.ensures
+    ∙ called_signal a.state a.script.now a.at c.read-number.result c.in-2.is c.read-number.ensures
 
 pub returns-in-3 : goal.returns-in-3
 returns-in-3 c =
     let a = c.args in
-    c.withdraw.ensures
-    ∙ called_withdraw a.state a.script.now a.at c.u16_at-number.result c.in-3.is c.u16_at-number.ensures
+    c.withdraw-moved.ensures
+    ∙ called_withdraw a.state a.script.now a.at c.read-number.result c.in-3.is c.read-number.ensures
 
 pub returns-in-4 : goal.returns-in-4
 returns-in-4 c =
     let a = c.args in
-    c.acquire.ensures
-    ∙ called_acquire a.state a.script.now a.at c.u16_at-number.result c.in-4.is c.u16_at-number.ensures
+    c.acquire-moved.ensures
+    ∙ called_acquire a.state a.script.now a.at c.read-number.result c.in-4.is c.read-number.ensures
 
 pub returns-in-5 : goal.returns-in-5
 returns-in-5 c =
     let a = c.args in
-    c.give.ensures
-    ∙ called_give a.state a.script.now a.at c.u16_at-number.result c.in-5.is c.u16_at-number.ensures
+    c.give-moved.ensures
+    ∙ called_give a.state a.script.now a.at c.read-number.result c.in-5.is c.read-number.ensures
 
 pub returns-in-6 : goal.returns-in-6
 returns-in-6 c =
     let a = c.args in
-    c.complete.ensures ∙ called_complete a.state a.script.now a.at c.in-6.is
+    c.complete-moved.ensures ∙ called_complete a.state a.script.now a.at c.in-6.is
 
 pub returns-in-7 : goal.returns-in-7
 returns-in-7 c =
     let a = c.args in
-    c.block.ensures ∙ called_block a.state a.script.now a.at c.in-7.is
+    c.block-moved.ensures ∙ called_block a.state a.script.now a.at c.in-7.is
 
 pub returns-in_default : goal.returns-in_default
 unfolding moved

@@ -8,4 +8,4 @@ returns c =
     let a = c.args in
     let first = c.put_word-end.ensures in
     let second = c.put_word.ensures in
-    put_more _ _ first (rw (c.put_u64.ensures, eight_bytes a.value) at second)
+    put_more _ _ first (rw (c.put.ensures, eight_bytes a.value) at second)

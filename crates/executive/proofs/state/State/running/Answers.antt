@@ -1,28 +1,28 @@
 -- `State::running` meets its contract: the number is that of the task that runs.
-use mathlib.Core.Path.{sym, ap, ◌∙◌}
-use native.Mathlib.Omega.{arith}
+use Rattle.std.specs.Prelude.{Option, Some, None, Result, Ok}
+use Rattle.std.specs.Option.{option_map, ok_or}
+use Prim.Native.Nat.{ℕ}
+use mathlib.Core.Path.{◌≡◌, refl, sym, ap, ◌∙◌}
 use Rattle.table.specs.declared.Task.{Task}
-use Rattle.waits.specs.Standing.{number_at}
-use Rattle.executive.specs.States.{tasks_of, sems_of}
-use Rattle.executive.proofs.SoundLaws.{used, task_at_lem, runs_found}
+use Rattle.table.specs.declared.refusals.Refusal.{Refusal}
+use Rattle.table.specs.declared.refusals.Refusal.TheVariants.{NobodyRuns}
+use Rattle.waits.specs.Waits.{task_at}
+use Rattle.executive.specs.States.{tasks_of}
+use Rattle.executive.proofs.CallLaws.{runs}
 use Rattle.executive.proofs.state.State.running.Goals as goal
 
-pub running-runs-requires : goal.running-runs-requires
-running-runs-requires c = used c.args.self c.requires
+-- what is not found is not there
+nobody : (f : Option ℕ) (r : Result ℕ Refusal) → r ≡ ok_or f NobodyRuns → ((i : ℕ) → r ≡ Ok i → ⊥) → f ≡ None
+nobody None r e never = refl
+nobody (Some i) r e never = absurd (never i e)
 
 pub returns-in_default : goal.returns-in_default
-unfolding number_at tasks_of sems_of
-returns-in_default c = ap (number_at (tasks_of c.args.self)) (sym c.in_default.is ∙ c.running-runs.ensures)
-
-pub offset_bounds-self-i : goal.offset_bounds-self-i
-offset_bounds-self-i c = omega (arith, (runs_found c.args.self c.requires c.running-runs.result c.running-runs.ensures c.in-At.i c.in-At.is).fits)
-
-pub bounds-self-i : goal.bounds-self-i
-bounds-self-i c = omega (arith, (runs_found c.args.self c.requires c.running-runs.result c.running-runs.ensures c.in-At.i c.in-At.is).fits)
+returns-in_default c =
+    let s = c.args.self.now in
+    sym (ap (option_map (λ i. (task_at (tasks_of s) i).number)) (nobody _ _ c.runs.ensures.place c.in_default.not-Ok))
 
 pub returns : goal.returns
-unfolding number_at tasks_of sems_of
 returns c =
-    let s = c.args.self in
-    sym (ap (λ (t : Task). t.number) (task_at_lem s c.in-At.i (runs_found c.args.self c.requires c.running-runs.result c.running-runs.ensures c.in-At.i c.in-At.is).below))
-    ∙ sym (ap (number_at (tasks_of s)) (runs_found c.args.self c.requires c.running-runs.result c.running-runs.ensures c.in-At.i c.in-At.is).is)
+    let s = c.args.self.now in
+    let r = runs s c.requires _ c.runs.ensures.place c.in-Ok.i c.in-Ok.is in
+    ap (λ (t : Task). Some t.number) (sym r.here) ∙ sym (ap (option_map (λ i. (task_at (tasks_of s) i).number)) r.is)
