@@ -71,7 +71,7 @@ pub fn task_before(a: Task, b: Task) -> bool
     (a.queue <= b.queue) & ((a.period, a.number) < (b.period, b.number))
 }
 
-// Semaphores stand by rising number.
+// Semaphores stand by rising number: one comparison, where a derived order of `Sem` would order holders too.
 #[tactic(auto, unfolding(crate::specs::WellFormed::sem_before))]
 pub fn sem_before(first: Sem, second: Sem) -> bool
     ensures { result ≡ sem_before first second }

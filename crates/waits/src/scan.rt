@@ -77,7 +77,8 @@ pub fn led_by(goal: Goal, status: Status, place: u8) -> Lead
     }
 }
 
-// The table followed from a place on. A chain passes each semaphore once, so that it comes to an end.
+// The table followed from a place on, along the chain, by no index. A chain passes each semaphore once, so that it comes
+// to an end.
 fn walk(link: &[Lead; 16], from: Lead) -> Lead
     requires { (length link.now ≡ 16) × (ended (walked 17 link.now from) ≡ true) }
     ensures { result ≡ walked 17 link.now from }

@@ -8,7 +8,7 @@ use crate::scan::{Goal, Lead};
 use crate::{Entries, scan};
 use table::{Sem, Task};
 
-// A standing: queue, deadline (0 in FP) and position.
+// A standing: queue (a number as in `Task`), deadline (0 in FP) and position.
 #[derive(Clone, Copy)]
 pub struct Rank {
     pub deadline: u64,
@@ -51,7 +51,7 @@ impl<'a> Entries<'a> {
     }
 
     // Whether an acquire of the semaphore at k by the task at i would close a ring of waits: the chain that starts at
-    // the semaphore's holder comes to that task.
+    // the semaphore's holder comes to that task. It is followed by no index.
     pub fn closes_ring(&self, i: usize, k: usize) -> bool
         requires { Used self.now.tasks.now self.now.sems.now × (i < length self.now.tasks.now) × (k < length self.now.sems.now) }
         ensures { result ≡ closes_ring self.now.tasks.now self.now.sems.now i k }
