@@ -12,13 +12,24 @@ use Rattle.table.proofs.RefusalLaws.{answered_refused, answered_done, first_of_h
 use Rattle.executive.specs.declared.state.State.{State}
 use Rattle.std.specs.Prelude.{Result, Ok, Err}
 use Rattle.executive.specs.declared.loaded.Refused.{Refused}
+use Rattle.table.specs.declared.refusals.Refusal.{Refusal}
 use Rattle.executive.specs.Reading.{Reading}
-use Rattle.executive.specs.Reading.{reading_by, refused_load, accepted_load, finished_load}
+use Rattle.executive.specs.Reading.{reading_with, reading_by, refused_with, refused_load, accepted_with, accepted_load, finished_load}
 
 -- what was read tells of its state, refused or not
-pub reading_state : (s : State) (answer : Result Unit Refused) → (reading_by s answer).state ≡ s
+pub reading_state : (s : State) (answer : Result Unit (Refused Refusal)) → (reading_by s answer).state ≡ s
 reading_state s (Ok x) = refl
 reading_state s (Err r) = refl
+
+-- a refusal for any reason, told by numbers in any way, is the refused load of its number; so it is where the reason is a number itself
+pub refused_told : {Why : Type 0} (told : Why → ℕ) (why : Why) (at : ℕ)
+    → reading_with told (refused_with why at).state (refused_with why at).answer ≡ refused_load (told why) at
+refused_told told why at = refl
+
+-- and what was read, told so, is the accepted load
+pub accepted_told : {Why : Type 0} (told : Why → ℕ) (s : State)
+    → reading_with told (accepted_with {Why = Why} s).state (accepted_with {Why = Why} s).answer ≡ accepted_load s
+accepted_told told s = refl
 
 -- the end of the records: a table with a task is accepted, and only such a one is
 pub finished_some : (s : State) (place : ℕ) → 1 ≤ s.n → finished_load s place ≡ accepted_load s

@@ -1,29 +1,28 @@
 // What reading a table hands back, from an image or from a list.
 ghost use Rattle.std.specs.Prelude.{◌≡◌};
-ghost use Rattle.table.specs.Refusals.{number_of};
-ghost use Rattle.executive.specs.Reading.{reading_of, refused_load, accepted_load};
+ghost use Rattle.executive.specs.Reading.{refused_with, accepted_with};
 
 use crate::state::State;
-use table::refusals::Refusal;
 
-// Why reading was refused, and the place of the record at which that arose.
+// Why reading was refused, and the place of the record at which that arose. What reads a table here says why by a
+// `Refusal`; another may say any number.
 #[derive(Clone, Copy, PartialEq, Eq)]
-pub struct Refused {
-    pub refusal: Refusal,
+pub struct Refused<Why> {
+    pub refusal: Why,
     pub place: usize,
 }
 
 // The state beside the answer.
 #[derive(Clone, Copy)]
-pub struct Loaded {
+pub struct Loaded<Why> {
     pub state: State,
-    pub answer: Result<(), Refused>,
+    pub answer: Result<(), Refused<Why>>,
 }
 
-impl Loaded {
+impl<Why> Loaded<Why> {
     // A refusal hands back the empty state.
-    pub fn refused(refusal: Refusal, place: usize) -> Self
-        ensures { reading_of result ≡ refused_load (number_of refusal) place }
+    pub fn refused(refusal: Why, place: usize) -> Self
+        ensures { result ≡ refused_with refusal place }
     {
         Self {
             state: State::empty(),
@@ -33,7 +32,7 @@ impl Loaded {
 
     // The state that was read.
     pub fn accepted(state: State) -> Self
-        ensures { reading_of result ≡ accepted_load state }
+        ensures { result ≡ accepted_with state }
     {
         Self {
             state,

@@ -16,6 +16,7 @@ use native.Mathlib.Omega.{arith}
 use lib.Dec.{eqb, ltb}
 use lib.ListN.{length, replicate, length-append, length-replicate, replicate-append-replicate}
 use borrow.Author.Tests.{eqb-true, eqb-false, ltb-false}
+use Rattle.table.specs.declared.refusals.Refusal.{Refusal}
 use Rattle.table.specs.Entries.{loaded_task, loaded_sem}
 use Rattle.table.proofs.RefusalLaws.{first_of_zero}
 use Rattle.table.proofs.SumLaws.{neither}
@@ -259,6 +260,6 @@ loaded_sound image bytes = go (image_empty image)
     go (inr h) = subst Sound (sym h) empty_sound
 
 -- the same of what a load answered
-pub sound_of : (image : List ℕ) (l : Loaded) → reading_of l ≡ load_of image → Bytes image → Sound l.state
+pub sound_of : (image : List ℕ) (l : Loaded Refusal) → reading_of l ≡ load_of image → Bytes image → Sound l.state
 sound_of image l e bytes =
     subst Sound (sym (ap (λ (r : Reading). r.state) e) ∙ reading_state l.state l.answer) (loaded_sound image bytes)

@@ -26,7 +26,7 @@ pub struct Front {
     pub erased: bool,
 }
 
-pub fn load(image: &[u8]) -> Loaded
+pub fn load(image: &[u8]) -> Loaded<Refusal>
     ensures { reading_of result ≡ load_of image.now }
 {
     if bad_length(image.len()) {
@@ -45,7 +45,7 @@ pub(crate) fn bad_length(bytes: usize) -> bool
 }
 
 // The state is built in place, and each record is judged by the front alone, so that no turn copies the state.
-fn load_records(records: &[[u8; RECORD]]) -> Loaded
+fn load_records(records: &[[u8; RECORD]]) -> Loaded<Refusal>
     ensures { reading_of result ≡ load_from fresh_table false 0 records.now }
 {
     let mut state = State::empty();
@@ -83,7 +83,7 @@ fn load_records(records: &[[u8; RECORD]]) -> Loaded
 
 // At the end of the records: 7 where there is no task.
 #[tactic(auto, unfolding(executive::specs::Reading::finished_load, table::specs::Refusals::first_of, table::specs::Refusals::answered))]
-fn finished(state: State, count: usize) -> Loaded
+fn finished(state: State, count: usize) -> Loaded<Refusal>
     ensures { reading_of result ≡ finished_load state count }
 {
     if state.n == 0 {

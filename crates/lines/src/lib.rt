@@ -28,6 +28,7 @@ pub fn put_decimal(out: &mut [u8], at: usize, value: u64) -> usize
 }
 
 // Puts a word at a place, and says where it ends.
+#[tactic(auto, using(crate::proofs::PutLaws::put_whole))]
 pub fn put_word(out: &mut [u8], at: usize, word: &[u8]) -> usize
     requires { at + length word.now ≤ length out.old }
     ensures { Put out.old at word.now out.new result }

@@ -8,6 +8,7 @@ use lib.ListN.{length, replicate}
 use lib.Seq.{sets}
 use borrow.Author.Tests.{lt-ltb, le-ltb}
 use Rattle.std.specs.Prelude.{Ok, Err}
+use Rattle.table.specs.declared.refusals.Refusal.{Refusal}
 use Rattle.table.specs.Refusals.{number_of}
 use Rattle.table.proofs.RefusalLaws.{number_not_zero}
 use Rattle.executive.specs.declared.loaded.Refused.{Refused}
@@ -23,7 +24,7 @@ use Rattle.rack.specs.Boundary.{head_bytes, entries_bytes, accepted_bytes, judge
 
 -- what comes of a reading, refused or not
 module _ (read : Reading) (refusal : Reading → ℕ) (write_by : State → ℕ → ℕ) (leaves : State → List ℕ → List ℕ) (before : List ℕ) (s : State) where
-  pub read_refused : (r : Refused) → reading_by s (Err r) ≡ read → (result : ℕ) → result ≡ refusal (reading_by s (Err r))
+  pub read_refused : (r : Refused Refusal) → reading_by s (Err r) ≡ read → (result : ℕ) → result ≡ refusal (reading_by s (Err r))
       → ReadThenWritten read (refusal read) write_by leaves before before result
   read_refused r e result h =
       subst (λ (x : Reading). ReadThenWritten x (refusal x) write_by leaves before before result) e
@@ -39,7 +40,7 @@ pub judged_short : (image before : List ℕ) → length before < 1032 → Judged
 judged_short image before h = record { contents = rw (lt-ltb (length before) 1032 h); number = rw (lt-ltb (length before) 1032 h) }
 
 -- the bytes of a load that is refused, and of one that is not
-pub judged_refused : (s : State) (r : Refused) → judged_bytes (reading_by s (Err r)) ≡ head_bytes (number_of r.refusal) 0 r.place 0 0
+pub judged_refused : (s : State) (r : Refused Refusal) → judged_bytes (reading_by s (Err r)) ≡ head_bytes (number_of r.refusal) 0 r.place 0 0
 unfolding judged_bytes
 judged_refused s r = rw (number_not_zero r.refusal)
 

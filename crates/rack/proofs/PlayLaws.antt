@@ -242,7 +242,7 @@ pub played_short : (image script out : List ℕ) → length script % 16 ≡ 0 �
 unfolding not_played
 played_short image script out h k = played_not image script out (rw (eq-eqb (length script % 16) 0 h, lt-ltb (length out / 32) (length script / 16) k))
 
-pub played_refused : (image script out : List ℕ) (s : State) (r : Refused) → length script % 16 ≡ 0 → length script / 16 ≤ length out / 32
+pub played_refused : (image script out : List ℕ) (s : State) (r : Refused Refusal) → length script % 16 ≡ 0 → length script / 16 ≤ length out / 32
     → reading_by s (Err r) ≡ load_of image → Played image script out out 0
 unfolding not_played
 played_refused image script out s r h k e =

@@ -54,6 +54,7 @@ fn play_all(from: State, script: &[u8], out: &mut [u8], count: usize)
 
 // Makes the call that the record at a place names, and says its number. The state is kept where a call is refused, so
 // that only an accepted one copies it back.
+#[tactic(auto, unfolding(executive::specs::Calls::moved))]
 fn play_next(state: &mut State, script: &[u8], at: usize) -> u8
     requires { Sound state.old × (at + 16 ≤ length script.now) }
     ensures next { state.new ≡ (called_by state.old script.now at).state }

@@ -11,6 +11,7 @@ use lib.ListN.{length, get_or, take, length-append}
 use lib.Dec.{eqb}
 use lib.Seq.{take-suc}
 use borrow.Author.Tests.{le-ltb}
+use Rattle.table.specs.declared.refusals.Refusal.{Refusal}
 use Rattle.table.specs.declared.Task.{Task}
 use Rattle.lines.specs.Lines.{Put, numbered, line_of}
 use Rattle.lines.proofs.PutLaws.{put_more, numbered_short}
@@ -71,8 +72,8 @@ reported_put image before after end h k p =
     }
 
 -- what is printed for an image that is refused, and for one that is not
-module _ (image : List ℕ) (l : Loaded) (e : reading_of l ≡ load_of image) where
-  pub report_refused : (r : Refused) → l.answer ≡ Err r → report_of image ≡ line_of image_word (number_of r.refusal ∷ r.place ∷ [])
+module _ (image : List ℕ) (l : Loaded Refusal) (e : reading_of l ≡ load_of image) where
+  pub report_refused : (r : Refused Refusal) → l.answer ≡ Err r → report_of image ≡ line_of image_word (number_of r.refusal ∷ r.place ∷ [])
   unfolding report_of image_line
   report_refused r h =
       subst (λ (x : Reading). cond (eqb x.number 0) (state_lines x.state) (image_line x) ≡ line_of image_word (number_of r.refusal ∷ r.place ∷ []))

@@ -27,7 +27,7 @@ refusal_apart (Ok x) (Err r) e = absurd (not_done r (sym e))
 refusal_apart (Err r) (Ok x) e = absurd (not_done r e)
 refusal_apart (Err r) (Err q) e = ap Err (number_apart r q e)
 
-reading_by_apart : (s t : State) (a b : Result Unit Refused) → reading_by s a ≡ reading_by t b → (s ≡ t) × (a ≡ b)
+reading_by_apart : (s t : State) (a b : Result Unit (Refused Refusal)) → reading_by s a ≡ reading_by t b → (s ≡ t) × (a ≡ b)
 reading_by_apart s t (Ok x) (Ok y) e = (ap (λ (r : Reading). r.state) e, refl)
 reading_by_apart s t (Ok x) (Err r) e = absurd (not_done r.refusal (sym (ap (λ (r : Reading). r.number) e)))
 reading_by_apart s t (Err r) (Ok x) e = absurd (not_done r.refusal (ap (λ (r : Reading). r.number) e))
@@ -36,7 +36,7 @@ reading_by_apart s t (Err r) (Err q) e =
     let place = ap (λ (r : Reading). r.place) e in
     (ap (λ (r : Reading). r.state) e, λ i. Err (record { refusal = same i; place = place i }))
 
-pub reading_apart : (l k : Loaded) → reading_of l ≡ reading_of k → l ≡ k
+pub reading_apart : (l k : Loaded Refusal) → reading_of l ≡ reading_of k → l ≡ k
 reading_apart l k e =
     let parts = reading_by_apart l.state k.state l.answer k.answer e in
     λ i. record { state = parts.0 i; answer = parts.1 i }

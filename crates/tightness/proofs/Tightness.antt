@@ -311,13 +311,13 @@ standing_one κs a z z' e e' p q = stands_apart z z' (p ∙ sym q)
 pub empty_one : OneResult 0 empty_kinds.ps empty_kinds.r empty.Post
 empty_one κs a z z' e e' p q = p ∙ sym q
 
--- executive::loaded::Loaded::refused
-pub loaded_refused_one : OneResult 0 loaded_refused_kinds.ps loaded_refused_kinds.r loaded_refused.Post
-loaded_refused_one κs a z z' e e' p q = reading_apart z z' (p ∙ sym q)
+-- executive::loaded::Loaded::refused and accepted, of any reason
+module _ (T : RattleType) (laws : Laws T) where
+  pub loaded_refused_one : OneResult 1 (loaded_refused_kinds.ps T laws) (loaded_refused_kinds.r T laws) (loaded_refused.Post T laws)
+  loaded_refused_one κs a z z' e e' p q = p ∙ sym q
 
--- executive::loaded::Loaded::accepted
-pub loaded_accepted_one : OneResult 0 loaded_accepted_kinds.ps loaded_accepted_kinds.r loaded_accepted.Post
-loaded_accepted_one κs a z z' e e' p q = reading_apart z z' (p ∙ sym q)
+  pub loaded_accepted_one : OneResult 1 (loaded_accepted_kinds.ps T laws) (loaded_accepted_kinds.r T laws) (loaded_accepted.Post T laws)
+  loaded_accepted_one κs a z z' e e' p q = p ∙ sym q
 
 -- records::decode
 pub decode_one : OneResult 1 decode_kinds.ps decode_kinds.r decode.Post

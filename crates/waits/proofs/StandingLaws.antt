@@ -241,14 +241,14 @@ module _ (tasks : List Task) (sems : List Sem) (c : Chained tasks sems) where
 
   -- the standing of a task
   pub scanned_standing : (i : ℕ) → i < length tasks → (best : Option Best) → best ≡ scan_of tasks sems (Is i)
-      → (b : Best) × (best ≡ Some b) × (b.rank ≡ standing_of tasks sems i)
+      → (b : Best) × (best ≡ Some b) × (b.position < length tasks) × (own_of tasks b.position ≡ standing_of tasks sems i)
   unfolding winner_of best_for own_of
   scanned_standing i h best e =
       let w = standing_at tasks sems c i h in
       let same = best_same (λ j. found_and (λ _. true) (met_by tasks sems (Is i) j)) (reaches tasks sems i) (own_of tasks) (length tasks)
       (λ j hj. is_reaches i j hj) in
       let wins = same ∙ w.3 in
-      (as_best (task_at tasks w.0) w.0 (found_or w.0 (met_by tasks sems (Is i) w.0)), e ∙ ap (best_for tasks sems (Is i)) wins, sym w.1)
+      (as_best (task_at tasks w.0) w.0 (found_or w.0 (met_by tasks sems (Is i) w.0)), e ∙ ap (best_for tasks sems (Is i)) wins, w.2.below, sym w.1)
 
   -- the ring that an acquire would close shows in the table
   module _ (i k : ℕ) (hk : k < length sems) (small : length sems ≤ 16) (link : List Lead) (linked : Linked tasks sems (Is i) link) where

@@ -12,7 +12,7 @@ use Rattle.waits.specs.declared.scan.Lead.{Lead}
 use Rattle.waits.specs.declared.scan.Lead.TheVariants.{Nobody, ToSem, Met}
 use Rattle.waits.specs.declared.scan.Best.{Best}
 use Rattle.waits.specs.Waits.{task_at, sem_at, waits_for, holder_of, waits_on}
-use Rattle.waits.specs.Standing.{found_and, found_or, own_rank, own_of, shown_deadline, best_among, is_ready}
+use Rattle.waits.specs.Standing.{found_and, found_or, own_of, shown_deadline, best_among, is_ready}
 
 -- to the semaphore that is waited for, and to the task that is met
 abbrev pub to_sem : Option ℕ → Lead
@@ -79,11 +79,11 @@ led_to link goal now i = cond (takes goal now i) (Met i) (walked 17 link (to_sem
 
 -- the best so far, and whether the next task would stand before it
 abbrev pub as_best : Task → ℕ → ℕ → Best
-as_best t i met = record { rank = own_rank t i; met = met }
+as_best t i met = record { deadline = shown_deadline t; queue = t.queue; position = i; met = met }
 
 unfoldable pub is_ahead : Option Best → Task → Bool
 is_ahead None t = true
-is_ahead (Some best) t = ltb t.queue best.rank.queue || (eqb t.queue best.rank.queue && ltb (shown_deadline t) best.rank.deadline)
+is_ahead (Some best) t = ltb t.queue best.queue || (eqb t.queue best.queue && ltb (shown_deadline t) best.deadline)
 
 -- the task of the best own standing whose chain meets the goal
 unfoldable pub winner_of : List Task → List Sem → Goal → ℕ → Option ℕ

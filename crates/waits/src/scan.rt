@@ -27,10 +27,14 @@ pub enum Lead {
 }
 
 // The best own standing among the tasks whose chain of waits meets the goal, and the position of the task that is met.
+// No field is narrow, so that the loop carries no gaps: with a `Rank` here, whose gaps are written at each better task,
+// `running` takes more than request a) allows where every task is better than those before it.
 #[derive(Clone, Copy)]
 pub struct Best {
-    pub rank: Rank,
-    pub met: u8,
+    pub deadline: u64,
+    pub queue: u64,
+    pub position: usize,
+    pub met: usize,
 }
 
 const FP: u8 = 3;
@@ -130,8 +134,8 @@ fn ahead(best: Option<Best>, t: Task) -> bool
     let Some(best) = best else {
         return true;
     };
-    let rank = best.rank;
-    (t.queue < rank.queue) | ((t.queue == rank.queue) & (deadline_shown(t) < rank.deadline))
+    let queue = t.queue as u64;
+    queue < best.queue || (queue == best.queue && deadline_shown(t) < best.deadline)
 }
 
 impl<'a> Entries<'a> {
@@ -164,8 +168,10 @@ impl<'a> Entries<'a> {
             }
             if let Lead::Met(met) = led_to(&link, goal, t.status, i as u8) {
                 best = Some(Best {
-                    rank: own(*t, i as u8),
-                    met,
+                    deadline: deadline_shown(*t),
+                    queue: t.queue as u64,
+                    position: i,
+                    met: met as usize,
                 });
             }
         }

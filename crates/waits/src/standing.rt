@@ -38,7 +38,7 @@ impl<'a> Entries<'a> {
         requires { Used self.now.tasks.now self.now.sems.now }
         ensures { result ≡ running_of self.now.tasks.now self.now.sems.now }
     {
-        self.scan(Goal::Ready).map(|best| best.met as usize)
+        self.scan(Goal::Ready).map(|best| best.met)
     }
 
     // The waiter of best standing for the semaphore at a place.
@@ -46,8 +46,7 @@ impl<'a> Entries<'a> {
         requires { Used self.now.tasks.now self.now.sems.now × (k < length self.now.sems.now) }
         ensures { result ≡ heir_of self.now.tasks.now self.now.sems.now k }
     {
-        self.scan(Goal::WaitsFor(k as u8))
-            .map(|best| best.met as usize)
+        self.scan(Goal::WaitsFor(k as u8)).map(|best| best.met)
     }
 
     // Whether an acquire of the semaphore at k by the task at i would close a ring of waits: the chain that starts at
@@ -97,6 +96,9 @@ impl<'a> Entries<'a> {
         if !self.waited_on(i) {
             return own;
         }
-        self.scan(Goal::Is(i as u8)).map_or(own, |best| best.rank)
+        match self.scan(Goal::Is(i as u8)) {
+            None => own,
+            Some(best) => scan::own(self.tasks[best.position], best.position as u8),
+        }
     }
 }

@@ -4,13 +4,14 @@ use mathlib.Core.Path.{sym, ap, ◌∙◌}
 use mathlib.Core.Bool.{false}
 use lib.ListN.{length}
 use Rattle.fields.proofs.PartLaws.{chunks_parts}
+use Rattle.executive.specs.Reading.{reading_of}
 use Rattle.image.specs.Loading.{fresh_table, load_from, load_records}
 use Rattle.image.proofs.LoadLaws.{load_bad, load_good}
 use Rattle.image.proofs.load.load.Goals as goal
 
 pub returns-then-bad_length : goal.returns-then-bad_length
 returns-then-bad_length c =
-    c.refused.ensures ∙ sym (load_bad c.args.image.now (sym c.bad_length.ensures ∙ c.if-bad_length.true))
+    ap reading_of c.refused.ensures ∙ sym (load_bad c.args.image.now (sym c.bad_length.ensures ∙ c.if-bad_length.true))
 
 pub returns : goal.returns
 unfolding load_records

@@ -13,6 +13,7 @@ use Rattle.records.specs.Records.{decoded}
 use Rattle.executive.specs.Calls.{with_tasks, with_sems}
 use Rattle.executive.proofs.TableLaws.{with_counts, with_board, grow_task, grow_sem}
 use Rattle.records.specs.declared.Record.{Record}
+use Rattle.executive.specs.Reading.{reading_of}
 use Rattle.image.specs.Fronts.{front_after, front_refusal}
 use Rattle.image.specs.declared.load.Front.{Front}
 use Rattle.executive.specs.declared.state.State.{State}
@@ -55,7 +56,7 @@ slice_bounds-passed-end c =
 
 pub returns-in-Err : goal.returns-in-Err
 returns-in-Err c =
-    c.refused.ensures
+    ap reading_of c.refused.ensures
     ∙ come_refused (turn c.loop-place.invariant c.loop-place-test.true c.in-Err.ensures.why)
     (eqb-false _ 0 (number_not_zero c.in-Err.refusal))
 

@@ -4,23 +4,6 @@ use Rattle.executive.specs.Calls.{Step, moved, step_by, answer_by}
 use Rattle.rack.proofs.PlayLaws.{kept_by}
 use Rattle.rack.proofs.play.play_next.Goals as goal
 
-pub returns-in-None-clause-next : goal.returns-in-None-clause-next
-unfolding moved
-returns-in-None-clause-next c = ap (λ (m : Step). m.state) (c.in-None.ensures {u = tt})
-
-pub returns-in-None-clause-answer : goal.returns-in-None-clause-answer
-unfolding moved
-returns-in-None-clause-answer c = ap (λ (m : Step). m.answer) (c.in-None.ensures {u = tt})
-
-pub returns-in-Ok-clause-next : goal.returns-in-Ok-clause-next
-unfolding moved
-returns-in-Ok-clause-next c = ap (λ (m : Step). m.state) (c.in-Some.ensures {u = tt})
-
-pub returns-in-Ok-clause-answer : goal.returns-in-Ok-clause-answer
-unfolding moved
-returns-in-Ok-clause-answer c =
-    c.number.ensures ∙ sym (ap answer_by c.in-Ok.is) ∙ ap (λ (m : Step). m.answer) (c.in-Some.ensures {u = tt})
-
 pub returns-in-Err-clause-next : goal.returns-in-Err-clause-next
 returns-in-Err-clause-next c =
     let a = c.args in

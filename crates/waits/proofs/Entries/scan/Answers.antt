@@ -1,10 +1,9 @@
 -- `Entries::scan` meets its contract: after i turns the best so far is the fold over the first i tasks, and over all of them that is the best that
 -- meets the goal.
-use Rattle.std.specs.Prelude.{Some}
+use Rattle.std.specs.Prelude.{ℕ, Some}
 use mathlib.Core.Path.{refl, sym, ap, ◌∙◌}
 use native.Mathlib.Omega.{arith}
 use Rattle.waits.specs.Waits.{task_at}
-use Rattle.waits.specs.declared.standing.Rank.{Rank}
 use Rattle.waits.proofs.ScanLaws.{fold_to, fold_on, fold_behind, fold_unmet, fold_ahead, fold_all, follow_ends}
 use Rattle.waits.proofs.Entries.scan.Goals.{in-Met, in_default}
 use Rattle.waits.proofs.Entries.scan.Goals as goal
@@ -39,7 +38,7 @@ loop-i-preserved c =
     let ahead = sym c.ahead.ensures ∙ c.if-not-ahead.false in
     let on = fold_on s.tasks.now c.leads-link.result c.args.goal l.i l.best c.match-led_to.best l.invariant in
     elim c.match-led_to.branch [
-      | in-Met w ↦ on (w.best-is ∙ ap (λ (r : Rank). Some (record { rank = r; met = w.in-Met.met })) w.own.ensures ∙ sym (fold_ahead l.best _ l.i _ _ (sym c.led_to.ensures ∙ w.in-Met.is) ahead))
+      | in-Met w ↦ on (w.best-is ∙ ap (λ (d : ℕ). Some (record { deadline = d; queue = (task_at s.tasks.now l.i).queue; position = l.i; met = w.in-Met.met })) w.deadline_shown.ensures ∙ sym (fold_ahead l.best _ l.i _ _ (sym c.led_to.ensures ∙ w.in-Met.is) ahead))
       | in_default w ↦ on (w.best-is ∙ sym (fold_unmet l.best _ l.i _ (λ e q. w.in_default.not-Met e (c.led_to.ensures ∙ q))))
     ]
 

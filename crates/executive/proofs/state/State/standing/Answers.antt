@@ -1,7 +1,8 @@
 -- `State::standing` meets its contract: no task has the number, or the standing is that of the task that has it.
 use Rattle.std.proofs.Common.{rules, ◌≡◌}
 use Rattle.std.specs.Prelude.{Err}
-use mathlib.Core.Path.{sym, ap, ◌∙◌}
+use Rattle.std.specs.Option.{ok_or}
+use mathlib.Core.Path.{refl, sym, ap, ◌∙◌}
 use mathlib.Core.List.{[]}
 use native.Mathlib.Omega.{arith}
 use Rattle.table.specs.declared.refusals.Refusal.TheVariants.{UnknownTask}
@@ -18,7 +19,8 @@ unfolding stands_of
 returns-in_err-i c =
     let s = c.args.self.now in
     let e : c.from_residual.result ≡ Err UnknownTask = search rules in
-    let none = ok_or_none _ _ _ (sym c.task.ensures.place ∙ c.in_err-i.was) in
+    let was : ok_or (task_place (tasks_of s) c.args.number) UnknownTask ≡ Err UnknownTask = search rules in
+    let none = ok_or_none _ _ _ was in
     ap stands_by e
     ∙ sym
     (call_none 20 (λ i. []) stands_refused (λ i. shown (standing_of (tasks_of s) (sems_of s) i)) (task_place (tasks_of s) c.args.number) none.0
@@ -31,7 +33,7 @@ pub returns : goal.returns
 unfolding stands_of
 returns c =
     let s = c.args.self.now in
-    let n = names s c.requires.sized c.args.number _ c.task.ensures.place c.in_ok-i.i c.in_ok-i.was in
+    let n = names s c.requires.sized c.args.number _ refl c.in_ok-i.i (search rules) in
     let i = c.in_ok-i.i in
     let is : c.standing.result ≡ standing_of (tasks_of s) (sems_of s) i = search rules in
     ap shown is
