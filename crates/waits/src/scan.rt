@@ -27,8 +27,8 @@ pub enum Lead {
 }
 
 // The best own standing among the tasks whose chain of waits meets the goal, and the position of the task that is met.
-// No field is narrow, so that the loop carries no gaps: with a `Rank` here, whose gaps are written at each better task,
-// `running` takes more than request a) allows where every task is better than those before it.
+// No field is narrow, so that the loop carries no gaps: a `Rank` here was tried, and its gaps are written at each better
+// task, so that `complete` misses its limit where every task is better than those before it.
 #[derive(Clone, Copy)]
 pub struct Best {
     pub deadline: u64,
