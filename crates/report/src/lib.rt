@@ -3,7 +3,7 @@
 
 ghost use Rattle.std.specs.Prelude.{◌+◌, ◌≤◌, [], ◌∷◌, length};
 ghost use Rattle.lines.specs.Lines.{Put, line_of};
-ghost use Rattle.report.specs.Report.{Reported, line_by, task_lines};
+ghost use Rattle.report.specs.Report.{Reported, line_by, lines_by, task_lines};
 
 use charges::Counts;
 use judging::judge;
@@ -33,11 +33,20 @@ pub fn report(image: &[u8], out: &mut [u8]) -> usize
 
 // A line for each task: `task`, number, queue, charge. They are at most 64, as in `charges`. Here and below a place goes
 // in and the end comes out, as in `lines`, whose promise (`Put`) theirs is; the room is a clause of each.
+#[tactic(auto, unfolding(crate::specs::Report::task_lines))]
 fn put_tasks(tasks: &[Task], board: Board, out: &mut [u8]) -> usize
     requires { (length tasks.now ≤ 64) × (4352 ≤ length out.old) }
     ensures { Put out.old 0 (task_lines tasks.now board) out.new result × (result ≤ 4352) }
 {
     let counts = Counts::of(tasks, board);
+    put_lines(counts, tasks, out)
+}
+
+// Those lines, once what the charges go by is counted.
+fn put_lines(counts: Counts, tasks: &[Task], out: &mut [u8]) -> usize
+    requires { (length tasks.now ≤ 64) × (4352 ≤ length out.old) }
+    ensures { Put out.old 0 (lines_by counts tasks.now) out.new result × (result ≤ 4352) }
+{
     let mut at: usize = 0;
     for task in tasks {
         at = put_task(counts, *task, out, at);
